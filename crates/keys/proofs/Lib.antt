@@ -1,0 +1,4 @@
+-- What several proofs of `keys` cite: from a machine's words to the numbers that the contracts speak of.
+pub mod Zeros
+pub mod Halves
+pub mod Words

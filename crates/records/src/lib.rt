@@ -1,0 +1,100 @@
+// The records of an image and their tests: what every call of the map reads, and what it tests before it relies on it.
+//
+// A reader gives a record as a whole; a test is a function of the records that it is about. Nothing here follows a link.
+pub mod read; // read.rt: the header, a node, a value record
+pub mod tests; // tests.rt: document 01's tests of a record
+pub mod open; // open.rt: shape and header, which every call tests first
+pub mod write; // write.rt: a node's content, a value, the root
+
+use keys::Key;
+use node_allocator::Counts;
+
+// The index of a node. 0 means none.
+pub struct NodeIndex(pub u32);
+
+// The index of a value record. 0 means none.
+pub struct ValueIndex(pub u32);
+
+pub struct Value {
+    pub first: u64,
+    pub second: u64,
+}
+
+pub struct Header {
+    pub padding0: u64,
+    pub root: NodeIndex,
+    pub padding1: u32,
+    pub nodes: Counts,
+    pub values: Counts,
+}
+
+pub struct Node {
+    pub left: NodeIndex,
+    pub right: NodeIndex,
+    pub parent: NodeIndex,
+    pub value: ValueIndex,
+    pub key: Key,
+    pub prefix: u64,
+    pub padding: u64,
+}
+
+// What a node holds behind its registers: the Rust's `CritbitNode`.
+pub struct Content {
+    pub key: Key,
+    pub prefix: u64,
+    pub padding: u64,
+}
+
+pub struct ValueRecord {
+    pub register0: u32,
+    pub register1: u32,
+    pub register2: u32,
+    pub register3: u32,
+    pub value: Value,
+}
+
+// Why a call refuses. `numberOf` in specs/Numbers.antt gives document 01's number of each.
+pub enum Refusal {
+    Shape,
+    Damaged,
+    Full,
+    Absent,
+    NotBlank,
+    Cursor,
+}
+
+// The header of an image that passes the shape's and the header's tests, or the refusal.
+pub enum Opened {
+    Good(Header),
+    Shut(Refusal),
+}
+
+// The answer of start, contains and the value write.
+pub enum Done {
+    Yes,
+    Refused(Refusal),
+}
+
+// The answer of get and remove.
+pub enum Got {
+    Found(Value),
+    Refused(Refusal),
+}
+
+// The answer of insert and `get_addr`.
+pub enum Place {
+    At(NodeIndex),
+    Refused(Refusal),
+}
+
+// The answer of smallest and largest, and of a listing's step.
+pub enum Entry {
+    Is(Key, Value),
+    Refused(Refusal),
+}
+
+// The answer of length and capacity.
+pub enum Count {
+    Is(u32),
+    Refused(Refusal),
+}

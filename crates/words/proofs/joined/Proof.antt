@@ -1,0 +1,16 @@
+-- `words::joined` meets its contract: the low word counts one, the high word 2^32. Assumes nothing.
+use borrow.Author.Needs.{needs}
+use Rattle.words.proofs.joined.Statement.{statement}
+use Rattle.words.proofs.joined.Tie as tie
+
+mul-result : tie.Need-mul-result
+mul-result c = search needs
+
+add-result : tie.Need-add-result
+add-result c = search needs
+
+returns : tie.Need-returns
+returns c = search needs
+
+pub joined-spec : {M : Type 1} → statement M
+joined-spec = tie.close (tie.spec mul-result add-result returns)

@@ -1,0 +1,65 @@
+-- A run of words that are all 0: document 01's never-used records ("twelve zero words", "eight zero words") and blank memory.
+use mathlib.Core.Path.{_≡_, refl, sym, ap, _∙_}
+use mathlib.Core.List.{List}
+use mathlib.Core.Logic.{_↔_, _≢_, ⊎-elim}
+use mathlib.Core.Bool.{Bool, true, false, _&&_}
+use Prim.Native.Nat.{ℕ, zero, suc, _+_, _-_, _<_, _≤_}
+use native.Mathlib.Omega.{arith}
+use native.Mathlib.Nat.{eq-or-lt-of-le}
+use lib.ListN.{length, getD, List·getD-eq-default}
+use lib.Dec.{eqb}
+use Rattle.words.specs.Tests.{and-l, and-r}
+use borrow.Author.Tests.{eq-eqb, ne-eqb, eqb-true}
+
+-- the `many` words from place k on; those past the end are 0
+unfoldable pub zerosAt : List ℕ → ℕ → ℕ → Bool
+zerosAt ws k zero = true
+zerosAt ws k (suc many) = eqb (getD ws k 0) 0 && zerosAt ws (k + 1) many
+
+pub zeros-past : (ws : List ℕ) (k many : ℕ) → length ws ≤ k → zerosAt ws k many ≡ true
+unfolding zerosAt
+zeros-past ws k zero h = refl
+zeros-past ws k (suc many) h =
+    rw (eq-eqb (getD ws k 0) 0 (List·getD-eq-default ws 0 h)) (zeros-past ws (k + 1) many (omega arith))
+
+-- one word more: a run goes on behind a 0 and ends at anything else
+pub zeros-end : (ws : List ℕ) (k many : ℕ) → many ≤ 0 → zerosAt ws k many ≡ true
+unfolding zerosAt
+zeros-end ws k zero h = refl
+zeros-end ws k (suc many) h = absurd (omega arith)
+
+pub zeros-more : (ws : List ℕ) (k many : ℕ) → 0 < many → getD ws k 0 ≡ 0 → zerosAt ws k many ≡ zerosAt ws (k + 1) (many - 1)
+unfolding zerosAt
+zeros-more ws k zero h e = absurd (omega arith)
+zeros-more ws k (suc many) h e =
+    let less : suc many - 1 ≡ many = omega arith in
+    rw (eq-eqb (getD ws k 0) 0 e, less)
+
+pub zeros-stop : (ws : List ℕ) (k many : ℕ) → 0 < many → getD ws k 0 ≢ 0 → zerosAt ws k many ≡ false
+unfolding zerosAt
+zeros-stop ws k zero h n = absurd (omega arith)
+zeros-stop ws k (suc many) h n = rw (ne-eqb (getD ws k 0) 0 n)
+
+-- ---- what the test means: each word of the run is 0
+
+abbrev pub Zeros : List ℕ → ℕ → ℕ → Type 0
+Zeros ws k many = (j : ℕ) → k ≤ j → j < k + many → getD ws j 0 ≡ 0
+
+each : (ws : List ℕ) (k many : ℕ) → zerosAt ws k many ≡ true → Zeros ws k many
+unfolding zerosAt
+each ws k zero e j h l = absurd (omega arith)
+each ws k (suc many) e j h l =
+    ⊎-elim
+    (λ (q : k ≡ j). rw (sym q) (eqb-true (getD ws k 0) 0 (and-l _ (zerosAt ws (k + 1) many) e)))
+    (λ (q : k < j). each ws (k + 1) many (and-r (eqb (getD ws k 0) 0) _ e) j (omega arith) (omega arith))
+    (eq-or-lt-of-le h)
+
+all : (ws : List ℕ) (k many : ℕ) → Zeros ws k many → zerosAt ws k many ≡ true
+unfolding zerosAt
+all ws k zero f = refl
+all ws k (suc many) f =
+    rw (eq-eqb (getD ws k 0) 0 (f k (omega arith) (omega arith)))
+    (all ws (k + 1) many (λ j h l. f j (omega arith) (omega arith)))
+
+pub zeros-exact : (ws : List ℕ) (k many : ℕ) → (zerosAt ws k many ≡ true) ↔ Zeros ws k many
+zeros-exact ws k many = (each ws k many, all ws k many)
