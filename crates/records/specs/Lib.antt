@@ -4,5 +4,6 @@ pub mod Records
 pub mod Tests
 pub mod Opening
 pub mod Room
+pub mod Outcome
 pub mod Writes
 pub mod Numbers

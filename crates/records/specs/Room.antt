@@ -105,3 +105,14 @@ image-words m n bytes e = go (eqb (length bytes % 4) 0) (shaped m n _ e .words)
 
 pub opened-words : (m n : ℕ) (bytes : List ℕ) (h : Header) → openOf m n (imageOf bytes) ≡ Good h → imageOf bytes ≡ words bytes
 opened-words m n bytes h e = image-words m n bytes (parts m n (imageOf bytes) h e .0)
+
+pub shaped-whole : (m n : ℕ) (bytes : List ℕ) → shapeOk m n (length (imageOf bytes)) ≡ true → length bytes % 4 ≡ 0
+unfolding imageOf
+shaped-whole m n bytes e = go (eqb (length bytes % 4) 0) refl (shaped m n _ e .words)
+  where
+    go : (b : Bool) → eqb (length bytes % 4) 0 ≡ b → length (cond b (words bytes) []) ≡ imageLength m n → length bytes % 4 ≡ 0
+    go true t l = eqb-true (length bytes % 4) 0 t
+    go false t l = absurd (omega arith)
+
+pub opened-whole : (m n : ℕ) (bytes : List ℕ) (h : Header) → openOf m n (imageOf bytes) ≡ Good h → length bytes % 4 ≡ 0
+opened-whole m n bytes h e = shaped-whole m n bytes (parts m n (imageOf bytes) h e .0)

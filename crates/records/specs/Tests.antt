@@ -1,6 +1,7 @@
 -- Document 01, "Tests of a record", a definition for each of its paragraphs and in its order. Bumps and heads are counted as document 01 counts them: a range a..b
 -- has both its ends.
-use mathlib.Core.Bool.{Bool, _&&_, _||_, not, cond, Bool·beq}
+use mathlib.Core.Bool.{Bool, _&&_, _||_, not, true, false, cond, Bool·beq}
+use mathlib.Core.List.{List}
 use Prim.Native.Nat.{ℕ, _+_, _-_, _*_}
 use lib.Dec.{eqb, leb, ltb}
 use Rattle.node_allocator.specs.declared.Counts.{Counts}
@@ -8,6 +9,7 @@ use Rattle.node_allocator.specs.Steps.{linkOk}
 use Rattle.records.specs.declared.Header.{Header}
 use Rattle.records.specs.declared.Node.{Node}
 use Rattle.records.specs.declared.ValueRecord.{ValueRecord}
+use Rattle.records.specs.Records.{nodeOf}
 use Rattle.records.specs.Layout.{mostValues, mostNodes, imageLength}
 
 -- M is 1 to 4,096, N is 2M to 8,192, and the image has as many words as they ask for
@@ -75,6 +77,15 @@ nodeOk h i above low x =
     && eqb (x .parent .0) above
     && leb low (x .prefix)
     && (not (eqb above 0) || Bool·beq (not (eqb (x .value .0) 0)) (eqb (h .values .size) 1))
+
+-- the children of node i, whose record is x, as visited nodes; a leaf has none
+unfoldable pub kidsOk : Header → List ℕ → ℕ → Node → Bool
+kidsOk h ws i x =
+    cond (eqb (x .value .0) 0)
+    (cond (ltb (x .prefix) 128)
+    (nodeOk h (x .left .0) i (x .prefix + 1) (nodeOf ws (x .left .0)) && nodeOk h (x .right .0) i (x .prefix + 1) (nodeOf ws (x .right .0)))
+    false)
+    true
 
 -- ---- Value record of a leaf: four zero registers
 

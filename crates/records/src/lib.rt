@@ -8,6 +8,8 @@ pub mod write; // write.rt: a node's content, a value, the root
 
 use keys::Key;
 use node_allocator::Counts;
+ghost use mathlib.Core.Path.{_≡_};
+ghost use Rattle.records.specs.Numbers.{refusalNumber};
 
 // The index of a node. 0 means none.
 pub struct NodeIndex(pub u32);
@@ -95,6 +97,20 @@ pub enum Entry {
 
 // The answer of length and capacity.
 pub enum Count {
-    Is(u32),
+    Is(u64),
     Refused(Refusal),
+}
+
+// Document 01's number of a refusal.
+pub fn number(r: Refusal) -> u32
+    ensures { λ k. ⌜ k ≡ refusalNumber r ⌝ }
+{
+    match r {
+        Refusal::Shape => 1,
+        Refusal::Damaged => 2,
+        Refusal::Full => 3,
+        Refusal::Absent => 4,
+        Refusal::NotBlank => 5,
+        Refusal::Cursor => 6,
+    }
 }

@@ -14,7 +14,7 @@ ghost use lib.ListN.{length};
 ghost use lib.Dec.{eqb};
 ghost use Rattle.words.specs.Words.{words};
 ghost use Rattle.records.specs.Records.{nodeOf};
-ghost use Rattle.records.specs.Tests.{shapeOk, arenaOk, countsOk, headerOk, usedNode, leafForm, innerForm, formOk, nodeOk, liveValue, freeNode, freeValue};
+ghost use Rattle.records.specs.Tests.{shapeOk, arenaOk, countsOk, headerOk, usedNode, leafForm, innerForm, formOk, nodeOk, kidsOk, liveValue, freeNode, freeValue};
 
 // The limits of M and N.
 const MOST_VALUES: u32 = 4096;
@@ -134,6 +134,21 @@ pub fn visited_ok(img: &[u8], h: Header, i: NodeIndex, above: NodeIndex, low: u6
         return node_ok(h, i, above, low, node_in(img, i));
     }
     false
+}
+
+// The children of node `i`, whose record is `x`, tested as visited nodes; a leaf has none.
+pub fn kids_ok(img: &[u8], h: Header, i: NodeIndex, x: Node) -> bool
+    requires { ⌜ 12 * h .nodes .bump ≤ length (words (now img)) + 4 ⌝ }
+    ensures { λ r. ⌜ r ≡ kidsOk h (words (now (img .entry))) (i .0) x ⌝ }
+{
+    if x.value.0 == 0 {
+        if x.prefix < 128 {
+            let low = x.prefix + 1;
+            return visited_ok(img, h, x.left, i, low) & visited_ok(img, h, x.right, i, low);
+        }
+        return false;
+    }
+    true
 }
 
 // The value record of a leaf: four zero registers.

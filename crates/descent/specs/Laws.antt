@@ -1,0 +1,120 @@
+-- What the loops go by: a step down raises the least prefix length, so that a descent ends within 129 nodes, and what is left of a descent after a step is what was left before it.
+-- One proof for every turn.
+use mathlib.Core.Path.{_≡_, refl, sym, ap, _∙_}
+use mathlib.Core.List.{List}
+use mathlib.Core.Bool.{Bool, true, false, cond}
+use mathlib.Core.Logic.{⊎-elim}
+use Prim.Native.Nat.{ℕ, zero, suc, _+_, _≤_, _<_}
+use native.Mathlib.Omega.{arith}
+use lib.Dec.{eqb, leb, ltb}
+use borrow.Author.Tests.{leb-true, ltb-true, eqb-true}
+use Rattle.words.specs.Tests.{and-l, and-r, or-cases}
+use Rattle.keys.specs.declared.Key.{Key}
+use Rattle.keys.specs.Number.{numberOf}
+use Rattle.keys.specs.Common.{common}
+use Rattle.records.specs.declared.Header.{Header}
+use Rattle.records.specs.declared.Node.{Node}
+use Rattle.records.specs.declared.NodeIndex.{NodeIndex}
+use Rattle.records.specs.Records.{nodeOf}
+use Rattle.records.specs.Tests.{usedNode, leafForm, innerForm, formOk, nodeOk}
+use Rattle.descent.specs.declared.Stop.{Stop}
+use Rattle.descent.specs.declared.Stop.the-variants.{Damaged}
+use Rattle.descent.specs.declared.Step.{Step}
+use Rattle.descent.specs.declared.Step.the-variants.{Down, Halt}
+use Rattle.descent.specs.Descent.{isInner, childOf, lookupTurn, reachTurn, endTurn, stepOf, follow, descend}
+
+-- ---- what a passed visited-node test tells of the prefix length
+
+pub record Passed (low : ℕ) (x : Node) : Type 0 where
+  pub rises : low ≤ x .prefix
+  pub small : x .prefix ≤ 128
+  pub inner : x .value .0 ≡ 0 → x .prefix < 128
+
+leaf-passed : (h : Header) (low : ℕ) (x : Node) → low ≤ x .prefix → leafForm h x ≡ true → Passed low x
+leaf-passed h low x l e =
+    let p : x .prefix ≡ 128 = eqb-true (x .prefix) 128 (search (and-l, and-r)) in
+    let v : 1 ≤ x .value .0 = leb-true 1 (x .value .0) (search (and-l, and-r)) in
+    record { rises = l; small = omega arith; inner = λ z. omega arith }
+
+inner-passed : (low : ℕ) (x : Node) → low ≤ x .prefix → innerForm x ≡ true → Passed low x
+inner-passed low x l e =
+    let p : x .prefix < 128 = ltb-true (x .prefix) 128 (search (and-l, and-r)) in
+    record { rises = l; small = omega arith; inner = λ z. p }
+
+pub passed : (h : Header) (i above low : ℕ) (x : Node) → nodeOk h i above low x ≡ true → Passed low x
+unfolding nodeOk formOk
+passed h i above low x e =
+    let l : low ≤ x .prefix = leb-true low (x .prefix) (search (and-l, and-r)) in
+    ⊎-elim (leaf-passed h low x l) (inner-passed low x l) (or-cases (leafForm h x) (innerForm x) (search (and-l, and-r) depth 8))
+
+-- ---- a turn goes down from an inner node alone, and to the next longer prefix
+
+abbrev pub Turns : (NodeIndex → Node → Step) → Type 0
+Turns turn = (i : NodeIndex) (x : Node) (c : NodeIndex) (p : ℕ) → turn i x ≡ Down c p → (x .value .0 ≡ 0) × (x .prefix + 1 ≡ p)
+
+never-down : {s : Stop} {c : NodeIndex} {p : ℕ} → Halt s ≡ Down c p → ⊥
+never-down e = let z : _≡_ {A = ℕ} 0 1 = cc in omega arith
+
+went-down : (inner : Bool) (c₀ c : NodeIndex) (p₀ p : ℕ) (s : Stop) → cond inner (Down c₀ p₀) (Halt s) ≡ Down c p → (inner ≡ true) × (p₀ ≡ p)
+went-down true c₀ c p₀ p s e = (refl, cc)
+went-down false c₀ c p₀ p s e = absurd (never-down e)
+
+past-test : (b : Bool) (s : Stop) (t : Step) (c : NodeIndex) (p : ℕ) → cond b (Halt s) t ≡ Down c p → t ≡ Down c p
+past-test true s t c p e = absurd (never-down e)
+past-test false s t c p e = e
+
+either-halt : (inner b : Bool) (c₀ c : NodeIndex) (p₀ p : ℕ) (s t : Stop) → cond inner (Down c₀ p₀) (cond b (Halt s) (Halt t)) ≡ Down c p → (inner ≡ true) × (p₀ ≡ p)
+either-halt true b c₀ c p₀ p s t e = (refl, cc)
+either-halt false true c₀ c p₀ p s t e = absurd (never-down e)
+either-halt false false c₀ c p₀ p s t e = absurd (never-down e)
+
+pub lookup-turns : (key : Key) → Turns (lookupTurn key)
+unfolding lookupTurn
+lookup-turns key i x c p e =
+    let d = went-down (isInner x) _ _ _ _ _ (past-test (ltb (common (numberOf key) (numberOf (x .key))) (x .prefix)) _ _ c p e) in
+    (eqb-true (x .value .0) 0 (d .0), d .1)
+
+pub reach-turns : (key : Key) → Turns (reachTurn key)
+unfolding reachTurn
+reach-turns key i x c p e =
+    let d = either-halt (isInner x) (eqb (numberOf key) (numberOf (x .key))) _ _ _ _ _ _ e in
+    (eqb-true (x .value .0) 0 (d .0), d .1)
+
+pub end-turns : (right : Bool) → Turns (endTurn right)
+unfolding endTurn
+end-turns right i x c p e =
+    let d = went-down (isInner x) _ _ _ _ _ e in
+    (eqb-true (x .value .0) 0 (d .0), d .1)
+
+-- ---- a step of any descent
+
+module _ (turn : NodeIndex → Node → Step) (turns : Turns turn) (h : Header) (ws : List ℕ) (i above : NodeIndex) (low : ℕ) where
+  -- it goes to a longer prefix, at most 128
+  pub rises : (c : NodeIndex) (p : ℕ) → stepOf turn h ws i above low ≡ Down c p → (low < p) × (p ≤ 128)
+  unfolding stepOf
+  rises c p e = go (nodeOk h (i .0) (above .0) low (nodeOf ws (i .0))) refl e
+    where
+      go : (b : Bool) → nodeOk h (i .0) (above .0) low (nodeOf ws (i .0)) ≡ b → cond b (turn i (nodeOf ws (i .0))) (Halt Damaged) ≡ Down c p → (low < p) × (p ≤ 128)
+      go false t d = absurd (never-down d)
+      go true t d =
+          let k = passed h (i .0) (above .0) low (nodeOf ws (i .0)) t in
+          let q = turns i (nodeOf ws (i .0)) c p d in
+          omega (arith, k .rises, k .inner (q .0), q .1)
+
+  module _ (whole : Stop) (fuel : ℕ) (enough : 129 ≤ fuel + low) (small : low ≤ 128) (rest : descend turn fuel h ws i above low ≡ whole) where
+    pub again : (c : NodeIndex) (p : ℕ) → stepOf turn h ws i above low ≡ Down c p
+        → (f : ℕ) × (129 ≤ f + p) × (descend turn f h ws c i p ≡ whole)
+    unfolding descend
+    again c p e = go fuel enough rest
+      where
+        go : (f : ℕ) → 129 ≤ f + low → descend turn f h ws i above low ≡ whole → (g : ℕ) × (129 ≤ g + p) × (descend turn g h ws c i p ≡ whole)
+        go zero n r = absurd (omega arith)
+        go (suc g) n r = (g, omega (arith, rises c p e), sym (ap (follow (λ d next. descend turn g h ws d i next)) e) ∙ r)
+
+    pub halts : (s : Stop) → stepOf turn h ws i above low ≡ Halt s → s ≡ whole
+    unfolding descend
+    halts s e = go fuel enough rest
+      where
+        go : (f : ℕ) → 129 ≤ f + low → descend turn f h ws i above low ≡ whole → s ≡ whole
+        go zero n r = absurd (omega arith)
+        go (suc g) n r = sym (ap (follow (λ d next. descend turn g h ws d i next)) e) ∙ r

@@ -1,0 +1,4 @@
+-- What the contracts of `descent` cite: the descents and their turns.
+pub mod Descent
+pub mod ByKind
+pub mod Laws

@@ -1,0 +1,55 @@
+-- `get::set` meets its contract: a refusal passes by every store. Assumes nothing.
+use mathlib.Core.Path.{sym, _∙_}
+use Rattle.records.specs.Numbers.{doneNumber}
+use Rattle.records.specs.Room.{opened-whole, opened-words}
+use Rattle.records.specs.Outcome.{wrote, left-alone}
+use Rattle.lookup.specs.Get.{writeOf, writeImage, targetDone, targetImage, target-opened}
+use borrow.Author.Needs.{needs}
+use Rattle.lookup.proofs.get.set.Statement.{statement}
+use Rattle.lookup.proofs.get.set.Tie as tie
+
+target-requires : tie.Need-target-requires
+target-requires c κs = search needs
+
+enum-known-found : tie.Need-enum-known-found
+enum-known-found c = search needs
+
+set-value-requires : tie.Need-set-value-requires
+set-value-requires c κs = search needs
+
+enum-known-found-2 : tie.Need-enum-known-found-2
+enum-known-found-2 c = search needs
+
+same-length : tie.Need-same-length
+same-length c = search needs
+
+returns : tie.Need-returns
+unfolding writeOf writeImage targetDone targetImage doneNumber
+returns c =
+    let o = target-opened _ _ _ _ _ _ _ (sym (c .before .before .before .before .before .before .before .target .ensures) ∙ c .before .before .before .before .before .found .given .1) in
+    (
+      simp (← c .before .before .before .before .before .before .before .target .ensures, c .before .before .before .before .before .found .given .1),
+      wrote (opened-whole _ _ _ _ (o .1)) (search needs) (simp (← c .before .before .before .before .before .before .before .target .ensures, c .before .before .before .before .before .found .given .1))
+      (simp (← c .before .before .before .before .before .before .before .target .ensures, c .before .before .before .before .before .found .given .1) (simp (opened-words _ _ _ _ (o .1), c .before .before .set-value .ensures))),
+    )
+
+same-length-2 : tie.Need-same-length-2
+same-length-2 c = search needs
+
+returns-2 : tie.Need-returns-2
+unfolding writeOf writeImage targetDone targetImage
+returns-2 c =
+    (simp (← c .before .before .before .target .ensures, c .before .found2 .given .1), left-alone (simp (← c .before .before .before .target .ensures, c .before .found2 .given .1)))
+
+pub set-spec : {M : Type 1} → statement M
+set-spec =
+    tie.close
+    (tie.spec
+    target-requires
+    enum-known-found
+    set-value-requires
+    enum-known-found-2
+    same-length
+    returns
+    same-length-2
+    returns-2)

@@ -1,0 +1,36 @@
+-- Smallest and largest: document 01, "smallest and largest (key and value)". Each visits the root, then only the Left (Right) child of each node, then the value record.
+use mathlib.Core.List.{List}
+use mathlib.Core.Bool.{Bool, true, false}
+use Prim.Native.Nat.{ℕ}
+use Rattle.keys.specs.declared.Key.{Key}
+use Rattle.records.specs.declared.NodeIndex.{NodeIndex}
+use Rattle.records.specs.declared.Opened.{Opened}
+use Rattle.records.specs.declared.Opened.the-variants.{Good, Shut}
+use Rattle.records.specs.declared.Entry.{Entry}
+use Rattle.records.specs.declared.Entry.the-variants as entry
+use Rattle.records.specs.Records.{nodeOf}
+use Rattle.records.specs.Opening.{openOf}
+use Rattle.descent.specs.Descent.{endOf}
+use Rattle.lookup.specs.declared.Target.{Target}
+use Rattle.lookup.specs.declared.Target.the-variants.{At, No}
+use Rattle.lookup.specs.Get.{stopTarget}
+
+abbrev pub keyOf : List ℕ → NodeIndex → Key
+keyOf ws i = nodeOf ws (i .0) .key
+
+unfoldable pub targetEntry : List ℕ → Target → Entry
+targetEntry ws (At i j v) = entry.Is (keyOf ws i) v
+targetEntry ws (No r) = entry.Refused r
+
+unfoldable pub openedEntry : ℕ → List ℕ → Bool → Opened → Entry
+openedEntry n ws right (Good h) = targetEntry ws (stopTarget n ws (endOf h ws right))
+openedEntry n ws right (Shut r) = entry.Refused r
+
+unfoldable pub endEntry : ℕ → ℕ → List ℕ → Bool → Entry
+endEntry m n ws right = openedEntry n ws right (openOf m n ws)
+
+abbrev pub smallestOf : ℕ → ℕ → List ℕ → Entry
+smallestOf m n ws = endEntry m n ws false
+
+abbrev pub largestOf : ℕ → ℕ → List ℕ → Entry
+largestOf m n ws = endEntry m n ws true

@@ -1,0 +1,121 @@
+// Get, contains, `get_addr` and the value write: by a key.
+use crate::Target;
+use descent::Stop;
+use descent::find;
+use keys::Key;
+use records::Done;
+use records::Got;
+use records::NodeIndex;
+use records::Opened;
+use records::Place;
+use records::Refusal;
+use records::Value;
+use records::ValueIndex;
+use records::open::open_image;
+use records::read::value_record;
+use records::tests::live_value;
+use records::write::set_value;
+ghost use mathlib.Core.Path.{_≡_};
+ghost use Rattle.words.specs.Words.{words};
+ghost use Rattle.records.specs.Layout.{imageOf};
+ghost use Rattle.records.specs.Numbers.{doneNumber};
+ghost use Rattle.records.specs.Outcome.{Leaves};
+ghost use Rattle.lookup.specs.Get.{leafTarget, stopTarget, targetOf, getOf, stopDone, containsOf, stopPlace, addrOf, writeOf, writeImage};
+
+// The value record that a leaf names, tested before its value is read or written.
+pub fn leaf_target(img: &[u8], n: u32, i: NodeIndex, j: ValueIndex) -> Target
+    ensures { λ r. ⌜ r ≡ leafTarget n (words (now (img .entry))) i j ⌝ }
+{
+    let record = value_record(img, n, j);
+    if live_value(record) {
+        let v = record.value;
+        return Target::At(i, j, v);
+    }
+    Target::No(Refusal::Damaged)
+}
+
+// What a descent's stop comes to.
+pub fn stop_target(img: &[u8], n: u32, stop: Stop) -> Target
+    ensures { λ r. ⌜ r ≡ stopTarget n (words (now (img .entry))) stop ⌝ }
+{
+    match stop {
+        Stop::Leaf(i, j) => leaf_target(img, n, i, j),
+        Stop::Parted(_) => Target::No(Refusal::Absent),
+        Stop::Damaged => Target::No(Refusal::Damaged),
+    }
+}
+
+// The tested value record of a key, or the first refusal in document 01's order.
+fn target(img: &[u8], m: u32, n: u32, key: Key) -> Target
+    ensures { λ r. ⌜ r ≡ targetOf m n (imageOf (now (img .entry))) key ⌝ }
+{
+    match open_image(img, m, n) {
+        Opened::Good(h) => stop_target(img, n, find(img, h, key)),
+        Opened::Shut(r) => Target::No(r),
+    }
+}
+
+// The value of a key.
+pub fn get(img: &[u8], m: u32, n: u32, key: Key) -> Got
+    ensures { λ r. ⌜ r ≡ getOf m n (imageOf (now (img .entry))) key ⌝ }
+{
+    match target(img, m, n, key) {
+        Target::At(_, _, v) => Got::Found(v),
+        Target::No(r) => Got::Refused(r),
+    }
+}
+
+// Writes the value of a key that is held: what the Rust's `get_mut` is for.
+pub fn set(img: &mut [u8], m: u32, n: u32, key: Key, v: Value) -> Done
+    ensures answer { λ r. ⌜ r ≡ writeOf m n (imageOf (now (img .entry))) key ⌝ }
+    ensures image { λ _. ⌜ Leaves (now (img .entry)) (now (img .exit)) (doneNumber (writeOf m n (imageOf (now (img .entry))) key)) (writeImage m n (imageOf (now (img .entry))) key v) ⌝ }
+{
+    let found = target(img, m, n, key);
+    match found {
+        Target::At(_, j, _) => {
+            set_value(img, m, n, j, v);
+            Done::Yes
+        }
+        Target::No(r) => Done::Refused(r),
+    }
+}
+
+fn stop_done(stop: Stop) -> Done
+    ensures { λ r. ⌜ r ≡ stopDone stop ⌝ }
+{
+    match stop {
+        Stop::Leaf(_, _) => Done::Yes,
+        Stop::Parted(_) => Done::Refused(Refusal::Absent),
+        Stop::Damaged => Done::Refused(Refusal::Damaged),
+    }
+}
+
+// Whether a key is held: yes, or refusal 4. No value record is tested.
+pub fn contains(img: &[u8], m: u32, n: u32, key: Key) -> Done
+    ensures { λ r. ⌜ r ≡ containsOf m n (imageOf (now (img .entry))) key ⌝ }
+{
+    match open_image(img, m, n) {
+        Opened::Good(h) => stop_done(find(img, h, key)),
+        Opened::Shut(r) => Done::Refused(r),
+    }
+}
+
+fn stop_place(stop: Stop) -> Place
+    ensures { λ r. ⌜ r ≡ stopPlace stop ⌝ }
+{
+    match stop {
+        Stop::Leaf(i, _) => Place::At(i),
+        Stop::Parted(_) => Place::Refused(Refusal::Absent),
+        Stop::Damaged => Place::Refused(Refusal::Damaged),
+    }
+}
+
+// The node of a key. No value record is tested.
+pub fn get_addr(img: &[u8], m: u32, n: u32, key: Key) -> Place
+    ensures { λ r. ⌜ r ≡ addrOf m n (imageOf (now (img .entry))) key ⌝ }
+{
+    match open_image(img, m, n) {
+        Opened::Good(h) => stop_place(find(img, h, key)),
+        Opened::Shut(r) => Place::Refused(r),
+    }
+}
