@@ -1,0 +1,1 @@
+// Crit-bit trees of keys, and the ascending lists that they stand for: theory, with no code.
