@@ -2,3 +2,4 @@
 pub mod Start
 pub mod Get
 pub mod Ends
+pub mod Promises

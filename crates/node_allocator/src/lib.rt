@@ -74,7 +74,10 @@ fn width(a: Arena) -> usize
 {
     match a {
         Arena::Nodes { nodes: _ } => 12,
-        Arena::Values { nodes: _, values: _ } => 8,
+        Arena::Values {
+            nodes: _,
+            values: _,
+        } => 8,
     }
 }
 

@@ -7,3 +7,4 @@ pub mod Room
 pub mod Outcome
 pub mod Writes
 pub mod Numbers
+pub mod Answers

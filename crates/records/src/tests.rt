@@ -18,6 +18,7 @@ ghost use Rattle.records.specs.Tests.{shapeOk, arenaOk, countsOk, header
 
 // The limits of M and N.
 const MOST_VALUES: u32 = 4096;
+
 const MOST_NODES: u32 = 8192;
 
 // One less, and 0 of 0.

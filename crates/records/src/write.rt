@@ -52,7 +52,10 @@ fn set_value_at(img: &mut [u8], at: usize, v: Value)
 pub fn set_value(img: &mut [u8], m: u32, n: u32, j: ValueIndex, v: Value)
     ensures { λ _. ⌜ words (now (img .exit)) ≡ setValue m n (words (now (img .entry))) (j .0) v ⌝ }
 {
-    let a = Arena::Values { nodes: n, values: m };
+    let a = Arena::Values {
+        nodes: n,
+        values: m,
+    };
     if is_inside(a, j.0) {
         set_value_at(img, record_at(a, j.0), v);
     }

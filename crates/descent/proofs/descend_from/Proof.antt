@@ -32,8 +32,7 @@ loop-less c = omega (arith, rises (lookupTurn (c .before .before .before .before
 loop-again : tie.Need-loop-again Inv-loop μ-loop
 loop-again c =
     let l = c .before .before .before .before .loop in
-    let e = sym (c .before .before .before .lookup-step .ensures) ∙ c .before .next .given .1 in
-    (
+    let e = sym (c .before .before .before .lookup-step .ensures) ∙ c .before .next .given .1 in (
       rises (lookupTurn (c .before .before .before .before .before .before .before .args .key)) (lookup-turns (c .before .before .before .before .before .before .before .args .key)) _ _ _ _ _ _ _ e .1,
       again (lookupTurn (c .before .before .before .before .before .before .before .args .key)) (lookup-turns (c .before .before .before .before .before .before .before .args .key)) _ _ _ _ _ _ _ (l .inv .1 .1) (l .inv .0) (l .inv .1 .2) _ _ e,
     )

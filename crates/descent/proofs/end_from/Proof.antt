@@ -32,8 +32,7 @@ loop-less c = omega (arith, rises (endTurn (c .before .before .before .before .b
 loop-again : tie.Need-loop-again Inv-loop μ-loop
 loop-again c =
     let l = c .before .before .before .before .loop in
-    let e = sym (c .before .before .before .end-step .ensures) ∙ c .before .next .given .1 in
-    (
+    let e = sym (c .before .before .before .end-step .ensures) ∙ c .before .next .given .1 in (
       rises (endTurn (c .before .before .before .before .before .before .before .args .right)) (end-turns (c .before .before .before .before .before .before .before .args .right)) _ _ _ _ _ _ _ e .1,
       again (endTurn (c .before .before .before .before .before .before .before .args .right)) (end-turns (c .before .before .before .before .before .before .before .args .right)) _ _ _ _ _ _ _ (l .inv .1 .1) (l .inv .0) (l .inv .1 .2) _ _ e,
     )

@@ -48,7 +48,7 @@ same-length : tie.Need-same-length
 same-length c = search needs
 
 returns : tie.Need-returns
-returns c = 
+returns c =
     words-set (c .args .bytes .now) (c .args .at) _ _ _ _ (c .pre)
     ∙ ap (set (words (c .args .bytes .now)) (c .args .at)) (word-bytes (c .args .v) (omega arith))
 

@@ -26,11 +26,10 @@ same-length c = search needs
 returns : tie.Need-returns
 unfolding writeOf writeImage targetDone targetImage doneNumber
 returns c =
-    let o = target-opened _ _ _ _ _ _ _ (sym (c .before .before .before .before .before .before .before .target .ensures) ∙ c .before .before .before .before .before .found .given .1) in
-    (
+    let o = target-opened _ _ _ _ _ _ _ (sym (c .before .before .before .before .before .before .before .target .ensures) ∙ c .before .before .before .before .before .found .given .1) in (
       simp (← c .before .before .before .before .before .before .before .target .ensures, c .before .before .before .before .before .found .given .1),
       wrote (opened-whole _ _ _ _ (o .1)) (search needs) (simp (← c .before .before .before .before .before .before .before .target .ensures, c .before .before .before .before .before .found .given .1))
-      (simp (← c .before .before .before .before .before .before .before .target .ensures, c .before .before .before .before .before .found .given .1) (simp (opened-words _ _ _ _ (o .1), c .before .before .set-value .ensures))),
+          (simp (← c .before .before .before .before .before .before .before .target .ensures, c .before .before .before .before .before .found .given .1) (simp (opened-words _ _ _ _ (o .1), c .before .before .set-value .ensures))),
     )
 
 same-length-2 : tie.Need-same-length-2

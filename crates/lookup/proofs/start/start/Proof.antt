@@ -26,11 +26,10 @@ same-length c = search needs
 returns : tie.Need-returns
 unfolding startImage doneImage doneNumber
 returns c =
-    let s = started-shaped (c .before .before .before .before .before .before .before .before .before .args .m) (c .before .before .before .before .before .before .before .before .before .args .n) _ (sym (c .before .before .before .before .before .before .start-test .ensures) ∙ c .before .before .before .before .enum-told .given .1) in
-    (
+    let s = started-shaped (c .before .before .before .before .before .before .before .before .before .args .m) (c .before .before .before .before .before .before .before .before .before .args .n) _ (sym (c .before .before .before .before .before .before .start-test .ensures) ∙ c .before .before .before .before .enum-told .given .1) in (
       simp (← c .before .before .before .before .before .before .start-test .ensures, c .before .before .before .before .enum-told .given .1),
       wrote (shaped-whole (c .before .before .before .before .before .before .before .before .before .args .m) (c .before .before .before .before .before .before .before .before .before .args .n) (c .before .before .before .before .before .before .before .before .before .args .img .now) s) (search needs) (simp (← c .before .before .before .before .before .before .start-test .ensures, c .before .before .before .before .enum-told .given .1))
-      (simp (← c .before .before .before .before .before .before .start-test .ensures, c .before .before .before .before .enum-told .given .1) (simp (image-words (c .before .before .before .before .before .before .before .before .before .args .m) (c .before .before .before .before .before .before .before .before .before .args .n) (c .before .before .before .before .before .before .before .before .before .args .img .now) s, c .before .before .store-counts .ensures))),
+          (simp (← c .before .before .before .before .before .before .start-test .ensures, c .before .before .before .before .enum-told .given .1) (simp (image-words (c .before .before .before .before .before .before .before .before .before .args .m) (c .before .before .before .before .before .before .before .before .before .args .n) (c .before .before .before .before .before .before .before .before .before .args .img .now) s, c .before .before .store-counts .ensures))),
     )
 
 same-length-2 : tie.Need-same-length-2
