@@ -1,0 +1,215 @@
+-- A tree that an image holds: every node of it passes its test, no node stands at two places, and the words determine it.
+use mathlib.Core.Path.{_≡_, refl, sym, ap, subst, subst₂, _∙_}
+use mathlib.Core.List.{List}
+use mathlib.Core.Logic.{_≢_, _⊎_, inl, inr}
+use mathlib.Core.Bool.{Bool, true, false, cond, _&&_, _||_, not, Bool·beq}
+use Prim.Native.Nat.{ℕ, suc, _+_, _-_, _*_, _≤_, _<_}
+use native.Mathlib.Omega.{arith}
+use native.Mathlib.Decide.{ℕ-discrete}
+use lib.Dec.{eqb, leb, ltb}
+use borrow.Author.Tests.{le-leb, lt-ltb, eq-eqb, ne-eqb}
+use Rattle.keys.specs.declared.Key.{Key}
+use Rattle.records.specs.declared.Header.{Header}
+use Rattle.records.specs.declared.Node.{Node}
+use Rattle.records.specs.Records.{nodeOf}
+use Rattle.records.specs.Tests.{usedNode, leafForm, innerForm, formOk, nodeOk, kidsOk}
+use Rattle.trees.specs.Tree.{Tree, leaf, inner, top}
+use Rattle.trees.specs.Nodes.{In, in-top}
+use Rattle.accepted.specs.Rules.{HeaderRules, Holds, leafNode, innerNode}
+use Rattle.accepted.specs.Accepted.{nodesIn}
+
+-- ---- each node passes its test
+
+-- the root's rule: a leaf exactly if n is 1
+abbrev pub RootRule : Header → Tree → Type 0
+RootRule h (leaf i key v) = h .values .size ≡ 1
+RootRule h (inner i key p l r) = h .values .size ≢ 1
+
+some-nodes : (t : Tree) → 1 ≤ nodesIn t
+unfolding nodesIn
+some-nodes (leaf i key v) = omega arith
+some-nodes (inner i key p l r) = omega arith
+
+pub root-rule : (m n : ℕ) (h : Header) (t : Tree) → HeaderRules m n h → nodesIn t ≡ h .nodes .size → RootRule h t
+unfolding nodesIn
+root-rule m n h (leaf i key v) r e = omega (arith, r .node-size)
+root-rule m n h (inner i key p l r) rules e = λ z. omega (arith, rules .node-size, some-nodes l, some-nodes r)
+
+module _ (h : Header) (ws : List ℕ) where
+  pub form-passes : (parent low : ℕ) (t : Tree) → Holds h ws parent low t → formOk h (top t) (nodeOf ws (top t)) ≡ true
+  unfolding formOk Holds
+  form-passes parent low (leaf i key v) k =
+      rw (
+        le-leb 1 i (k .index-some),
+        lt-ltb i (h .nodes .bump) (k .index-used),
+        k .here,
+        le-leb 1 v (k .value-some),
+        lt-ltb v (h .values .bump) (k .value-used),
+      )
+  form-passes parent low (inner i key p l r) k =
+      let left : top l ≢ 0 = top-some l (k .on-left) in
+      let right : top r ≢ 0 = top-some r (k .on-right) in
+      rw (
+        le-leb 1 i (k .index-some),
+        lt-ltb i (h .nodes .bump) (k .index-used),
+        k .here,
+        ne-eqb (top l) 0 left,
+        ne-eqb (top r) 0 right,
+        ne-eqb (top l) (top r) (k .two),
+        lt-ltb p 128 (k .short),
+      )
+    where
+      top-some : (t : Tree) → Holds h ws i (p + 1) t → top t ≢ 0
+      top-some (leaf j a v) k e = omega (arith, k .index-some)
+      top-some (inner j a q x y) k e = omega (arith, k .index-some)
+
+  rule-holds : (parent : ℕ) (t : Tree) (low : ℕ) → Holds h ws parent low t → (parent ≡ 0 → RootRule h t)
+      → not (eqb parent 0) || Bool·beq (not (eqb (nodeOf ws (top t) .value .0) 0)) (eqb (h .values .size) 1) ≡ true
+  unfolding Holds
+  rule-holds parent (leaf i key v) low k rule = go (ℕ-discrete parent 0)
+    where
+      go : Dec (parent ≡ 0) → not (eqb parent 0) || Bool·beq (not (eqb (nodeOf ws i .value .0) 0)) (eqb (h .values .size) 1) ≡ true
+      go (no d) = rw (ne-eqb parent 0 d)
+      go (yes e) = rw (eq-eqb parent 0 e, k .here, ne-eqb v 0 (λ z. omega (arith, k .value-some)), eq-eqb (h .values .size) 1 (rule e))
+  rule-holds parent (inner i key p l r) low k rule = go (ℕ-discrete parent 0)
+    where
+      go : Dec (parent ≡ 0) → not (eqb parent 0) || Bool·beq (not (eqb (nodeOf ws i .value .0) 0)) (eqb (h .values .size) 1) ≡ true
+      go (no d) = rw (ne-eqb parent 0 d)
+      go (yes e) = rw (eq-eqb parent 0 e, k .here, ne-eqb (h .values .size) 1 (rule e))
+
+  links-pass : (parent low : ℕ) (t : Tree) → Holds h ws parent low t → (eqb (nodeOf ws (top t) .parent .0) parent ≡ true) × (leb low (nodeOf ws (top t) .prefix) ≡ true)
+  unfolding Holds
+  links-pass parent low (leaf i key v) k = (rw (k .here) (eq-eqb parent parent refl), rw (k .here) (le-leb low 128 (k .rises)))
+  links-pass parent low (inner i key p l r) k = (rw (k .here) (eq-eqb parent parent refl), rw (k .here) (le-leb low p (k .rises)))
+
+  pub node-passes : (parent low : ℕ) (t : Tree) → Holds h ws parent low t → (parent ≡ 0 → RootRule h t) → nodeOk h (top t) parent low (nodeOf ws (top t)) ≡ true
+  unfolding nodeOk
+  node-passes parent low t k rule =
+      rw (form-passes parent low t k, links-pass parent low t k .0, links-pass parent low t k .1) (rule-holds parent t low k rule)
+
+  -- the children of a node are visited nodes
+  pub kids-pass : (parent low : ℕ) (t : Tree) → Holds h ws parent low t → kidsOk h ws (top t) (nodeOf ws (top t)) ≡ true
+  unfolding kidsOk Holds
+  kids-pass parent low (leaf i key v) k = rw (k .here, ne-eqb v 0 (λ z. omega (arith, k .value-some)))
+  kids-pass parent low (inner i key p l r) k =
+      rw (
+        k .here,
+        lt-ltb p 128 (k .short),
+        node-passes i (p + 1) l (k .on-left) (λ z. absurd (omega (arith, k .index-some))),
+        node-passes i (p + 1) r (k .on-right) (λ z. absurd (omega (arith, k .index-some))),
+      )
+
+  -- ---- no node stands at two places
+
+  rises : (parent low : ℕ) (t : Tree) (x : ℕ) → Holds h ws parent low t → In x t → low ≤ nodeOf ws x .prefix
+  unfolding Holds
+  rises parent low (leaf i key v) x k q = rw (q, k .here) (k .rises)
+  rises parent low (inner i key p l r) x k (inl q) = rw (q, k .here) (k .rises)
+  rises parent low (inner i key p l r) x k (inr (inl q)) = omega (arith, k .rises, rises i (p + 1) l x (k .on-left) q)
+  rises parent low (inner i key p l r) x k (inr (inr q)) = omega (arith, k .rises, rises i (p + 1) r x (k .on-right) q)
+
+  pub top-parent : (parent low : ℕ) (t : Tree) → Holds h ws parent low t → nodeOf ws (top t) .parent .0 ≡ parent
+  unfolding Holds
+  top-parent parent low (leaf i key v) k = rw (k .here)
+  top-parent parent low (inner i key p l r) k = rw (k .here)
+
+  pub in-range : (parent low : ℕ) (t : Tree) (x : ℕ) → Holds h ws parent low t → In x t → (1 ≤ x) × (x < h .nodes .bump)
+  unfolding Holds
+  in-range parent low (leaf i key v) x k q = rw q (k .index-some, k .index-used)
+  in-range parent low (inner i key p l r) x k (inl q) = rw q (k .index-some, k .index-used)
+  in-range parent low (inner i key p l r) x k (inr (inl q)) = in-range i (p + 1) l x (k .on-left) q
+  in-range parent low (inner i key p l r) x k (inr (inr q)) = in-range i (p + 1) r x (k .on-right) q
+
+  -- a node is the top, or its Parent is a node
+  up : (parent low : ℕ) (t : Tree) (x : ℕ) → Holds h ws parent low t → In x t → (x ≡ top t) ⊎ In (nodeOf ws x .parent .0) t
+  unfolding Holds
+  up parent low (leaf i key v) x k q = inl q
+  up parent low (inner i key p l r) x k (inl q) = inl q
+  up parent low (inner i key p l r) x k (inr (inl q)) = go (up i (p + 1) l x (k .on-left) q)
+    where
+      go : (x ≡ top l) ⊎ In (nodeOf ws x .parent .0) l → (x ≡ i) ⊎ In (nodeOf ws x .parent .0) (inner i key p l r)
+      go (inl e) = inr (inl (rw (e, top-parent i (p + 1) l (k .on-left))))
+      go (inr q) = inr (inr (inl q))
+  up parent low (inner i key p l r) x k (inr (inr q)) = go (up i (p + 1) r x (k .on-right) q)
+    where
+      go : (x ≡ top r) ⊎ In (nodeOf ws x .parent .0) r → (x ≡ i) ⊎ In (nodeOf ws x .parent .0) (inner i key p l r)
+      go (inl e) = inr (inl (rw (e, top-parent i (p + 1) r (k .on-right))))
+      go (inr q) = inr (inr (inr q))
+
+  -- of two trees with a node in common one's top is a node of the other
+  meet : (a low : ℕ) (s : Tree) (b low′ : ℕ) (t : Tree) (x : ℕ) → Holds h ws a low s → Holds h ws b low′ t → In x s → In x t → In (top s) t ⊎ In (top t) s
+  unfolding Holds
+  meet a low (leaf i key v) b low′ t x k g q z = inl (subst (λ y. In y t) q z)
+  meet a low (inner i key p l r) b low′ t x k g (inl q) z = inl (subst (λ y. In y t) q z)
+  meet a low (inner i key p l r) b low′ t x k g (inr (inl q)) z = go (meet i (p + 1) l b low′ t x (k .on-left) g q z)
+    where
+      through : (top l ≡ top t) ⊎ In (nodeOf ws (top l) .parent .0) t → In i t ⊎ In (top t) (inner i key p l r)
+      through (inl e) = inr (inr (inl (subst (λ y. In y l) e (in-top l))))
+      through (inr d) = inl (subst (λ y. In y t) (top-parent i (p + 1) l (k .on-left)) d)
+
+      go : In (top l) t ⊎ In (top t) l → In i t ⊎ In (top t) (inner i key p l r)
+      go (inl d) = through (up b low′ t (top l) g d)
+      go (inr d) = inr (inr (inl d))
+  meet a low (inner i key p l r) b low′ t x k g (inr (inr q)) z = go (meet i (p + 1) r b low′ t x (k .on-right) g q z)
+    where
+      through : (top r ≡ top t) ⊎ In (nodeOf ws (top r) .parent .0) t → In i t ⊎ In (top t) (inner i key p l r)
+      through (inl e) = inr (inr (inr (subst (λ y. In y r) e (in-top r))))
+      through (inr d) = inl (subst (λ y. In y t) (top-parent i (p + 1) r (k .on-right)) d)
+
+      go : In (top r) t ⊎ In (top t) r → In i t ⊎ In (top t) (inner i key p l r)
+      go (inl d) = through (up b low′ t (top r) g d)
+      go (inr d) = inr (inr (inr d))
+
+  -- a node is not below itself: prefix lengths rise
+  not-below : (parent i key-prefix : ℕ) (t : Tree) → nodeOf ws i .prefix ≡ key-prefix → Holds h ws i (key-prefix + 1) t → In i t → ⊥
+  not-below parent i p t e k q = omega (arith, rises i (p + 1) t i k q)
+
+  -- no node of a tree stands at two places
+  abbrev pub Once : Tree → Type 0
+  Once (leaf i key v) = Unit {0}
+  Once (inner i key p l r) = (In i l → ⊥) × (In i r → ⊥) × ((x : ℕ) → In x l → In x r → ⊥) × Once l × Once r
+
+  pub once : (parent low : ℕ) (t : Tree) → Holds h ws parent low t → Once t
+  unfolding Holds
+  once parent low (leaf i key v) k = tt
+  once parent low (inner i key p l r) k =
+      (not-left, not-right, (λ x a b. go (meet i (p + 1) l i (p + 1) r x (k .on-left) (k .on-right) a b)), once i (p + 1) l (k .on-left), once i (p + 1) r (k .on-right))
+    where
+      own : nodeOf ws i .prefix ≡ p
+      own = ap (λ (x : Node). x .prefix) (k .here)
+
+      not-left : In i l → ⊥
+      not-left = not-below parent i p l own (k .on-left)
+
+      not-right : In i r → ⊥
+      not-right = not-below parent i p r own (k .on-right)
+
+      from-left : (top l ≡ top r) ⊎ In (nodeOf ws (top l) .parent .0) r → ⊥
+      from-left (inl e) = k .two e
+      from-left (inr d) = not-right (subst (λ y. In y r) (top-parent i (p + 1) l (k .on-left)) d)
+
+      from-right : (top r ≡ top l) ⊎ In (nodeOf ws (top r) .parent .0) l → ⊥
+      from-right (inl e) = k .two (sym e)
+      from-right (inr d) = not-left (subst (λ y. In y l) (top-parent i (p + 1) r (k .on-right)) d)
+
+      go : In (top l) r ⊎ In (top r) l → ⊥
+      go (inl d) = from-left (up i (p + 1) r (top l) (k .on-right) d)
+      go (inr d) = from-right (up i (p + 1) l (top r) (k .on-left) d)
+
+  -- ---- the words determine the tree
+
+  pub unique : (parent low : ℕ) (t u : Tree) → top t ≡ top u → Holds h ws parent low t → Holds h ws parent low u → t ≡ u
+  unfolding Holds
+  unique parent low (leaf i key v) (leaf j a w) e k g =
+      let same : leafNode parent key v ≡ leafNode parent a w = sym (k .here) ∙ ap (nodeOf ws) e ∙ g .here in
+      λ ι. leaf (e ι) (ap (λ (x : Node). x .key) same ι) (ap (λ (x : Node). x .value .0) same ι)
+  unique parent low (leaf i key v) (inner j a p l r) e k g =
+      absurd (omega (arith, k .value-some, ap (λ (x : Node). x .value .0) (sym (k .here) ∙ ap (nodeOf ws) e ∙ g .here)))
+  unique parent low (inner j a p l r) (leaf i key v) e k g =
+      absurd (omega (arith, g .value-some, ap (λ (x : Node). x .value .0) (sym (k .here) ∙ ap (nodeOf ws) e ∙ g .here)))
+  unique parent low (inner i key p l r) (inner j a q x y) e k g =
+      let same : innerNode parent key p (top l) (top r) ≡ innerNode parent a q (top x) (top y) = sym (k .here) ∙ ap (nodeOf ws) e ∙ g .here in
+      let long : p ≡ q = ap (λ (z : Node). z .prefix) same in
+      let left : l ≡ x = unique i (p + 1) l x (ap (λ (z : Node). z .left .0) same) (k .on-left) (subst₂ (λ (b c : ℕ). Holds h ws b (c + 1) x) (sym e) (sym long) (g .on-left)) in
+      let right : r ≡ y = unique i (p + 1) r y (ap (λ (z : Node). z .right .0) same) (k .on-right) (subst₂ (λ (b c : ℕ). Holds h ws b (c + 1) y) (sym e) (sym long) (g .on-right)) in
+      λ ι. inner (e ι) (ap (λ (z : Node). z .key) same ι) (long ι) (left ι) (right ι)
