@@ -275,7 +275,7 @@ module _ {m n : ℕ} {ws : List ℕ} (a : Accepted m n ws) where
 
   pub length-agrees : lengthOf m n ws ≡ count.Is (length (listed a))
   unfolding lengthOf openedLength
-  length-agrees = rw (image-opened, sized (a .tree) (a .holds), length-map (listOf (a .tree)) (λ e. (e .0, valueAtRecord n ws (e .1))))
+  length-agrees = rw (image-opened, sized (a .tree) (a .holds), length-map {B = Key × Value} (listOf (a .tree)) (λ e. (e .0, valueAtRecord n ws (e .1))))
 
   pub capacity-agrees : capacityOf m n ws ≡ count.Is m
   unfolding capacityOf openedCapacity
