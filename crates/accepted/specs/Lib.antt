@@ -3,3 +3,4 @@ pub mod Rules
 pub mod Accepted
 pub mod Tests
 pub mod Held
+pub mod Frame

@@ -7,6 +7,7 @@ use Prim.Native.Nat.{ℕ, _+_, _-_, _*_, _≤_, _<_}
 use native.Mathlib.Omega.{arith}
 use lib.ListN.{length, getD, set, length-set}
 use lib.Seq.{getD-set-same, getD-set-other}
+use Rattle.words.specs.Tests.{either-way}
 use Rattle.words.specs.Wide.{wideAt, setWide, set-wide-others, set-wide-length}
 use Rattle.node_allocator.specs.declared.Arena.{Arena}
 use Rattle.node_allocator.specs.declared.Arena.the-variants.{Nodes, Values}
@@ -30,6 +31,24 @@ pub header-parts : (m n : ℕ) (ws : List ℕ)
 unfolding headerOf countsOf headerAt
 header-parts m n ws = refl
 
+-- the header is what its words are
+pub header-same : (n : ℕ) (vs ws : List ℕ) → Same vs ws 0 8 → Same vs ws (12 * n + 8) (12 * n + 12) → headerOf n vs ≡ headerOf n ws
+unfolding headerOf wideAt
+header-same n vs ws f g =
+    let e0 = f 0 (omega arith) (omega arith) in
+    let e1 = f 1 (omega arith) (omega arith) in
+    let e2 = f 2 (omega arith) (omega arith) in
+    let e3 = f 3 (omega arith) (omega arith) in
+    let e4 = f 4 (omega arith) (omega arith) in
+    let e5 = f 5 (omega arith) (omega arith) in
+    let e6 = f 6 (omega arith) (omega arith) in
+    let e7 = f 7 (omega arith) (omega arith) in
+    let g0 = g (12 * n + 8) (omega arith) (omega arith) in
+    let g1 = g (12 * n + 8 + 1) (omega arith) (omega arith) in
+    let g2 = g (12 * n + 8 + 2) (omega arith) (omega arith) in
+    let g3 = g (12 * n + 8 + 3) (omega arith) (omega arith) in
+    simp (e0, e1, e2, e3, e4, e5, e6, e7, g0, g1, g2, g3)
+
 pub counts-kept : (a : Arena) (vs ws : List ℕ) → Same vs ws (headerAt a) (headerAt a + 4) → countsOf a vs ≡ countsOf a ws
 unfolding countsOf wideAt
 counts-kept a vs ws f =
@@ -43,7 +62,7 @@ counts-kept a vs ws f =
 
 module _ (n : ℕ) (ws : List ℕ) where
   -- a node's register and content stand between the two headers
-  register-away : (i v : ℕ) (f : Field) → 1 ≤ i → i ≤ n → (k : ℕ) → (k < 8) ⊎ (12 * n + 8 ≤ k) → getD (setRegister (Nodes n) ws i v f) k 0 ≡ getD ws k 0
+  pub register-away : (i v : ℕ) (f : Field) → 1 ≤ i → i ≤ n → (k : ℕ) → (k < 8) ⊎ (12 * n + 8 ≤ k) → getD (setRegister (Nodes n) ws i v f) k 0 ≡ getD ws k 0
   unfolding recordAt
   register-away i v f h l k o = register-others (Nodes n) ws i v f k (out o)
     where
@@ -51,7 +70,7 @@ module _ (n : ℕ) (ws : List ℕ) where
       out (inl a) e = omega (arith, register-small f)
       out (inr a) e = omega (arith, register-small f)
 
-  content-away : (i : ℕ) (c : Content) (k : ℕ) → (k < 8) ⊎ (12 * n + 8 ≤ k) → getD (setContent n ws i c) k 0 ≡ getD ws k 0
+  pub content-away : (i : ℕ) (c : Content) (k : ℕ) → (k < 8) ⊎ (12 * n + 8 ≤ k) → getD (setContent n ws i c) k 0 ≡ getD ws k 0
   unfolding setContent recordAt capacityOf
   content-away i c k o = go (inside (Nodes n) i) refl
     where
@@ -98,7 +117,7 @@ module _ (n : ℕ) (ws : List ℕ) where
   -- ---- a value that is stored
 
   module _ (m j : ℕ) (v : Value) where
-    value-away : (k : ℕ) → k < 12 * n + 12 → getD (setValue m n ws j v) k 0 ≡ getD ws k 0
+    pub value-away : (k : ℕ) → k < 12 * n + 12 → getD (setValue m n ws j v) k 0 ≡ getD ws k 0
     unfolding setValue recordAt capacityOf
     value-away k h = go (inside (Values n m) j) refl
       where
@@ -108,6 +127,15 @@ module _ (n : ℕ) (ws : List ℕ) where
             let named = is-inside (Values n m) j e in
             set-wide-others (setWide ws (valueAt n j + 4) (v .first)) (valueAt n j + 6) (v .second) k (λ q. omega (arith, named .low)) (λ q. omega (arith, named .low))
             ∙ set-wide-others ws (valueAt n j + 4) (v .first) k (λ q. omega (arith, named .low)) (λ q. omega (arith, named .low))
+
+    -- past the record of a value too
+    pub value-beyond : (k : ℕ) → valueAt n j + 8 ≤ k → getD (setValue m n ws j v) k 0 ≡ getD ws k 0
+    unfolding setValue recordAt
+    value-beyond k h =
+        either-way (λ us. getD us k 0 ≡ getD ws k 0) (inside (Values n m) j) (valueSetAt ws (valueAt n j) v) ws
+        (set-wide-others (setWide ws (valueAt n j + 4) (v .first)) (valueAt n j + 6) (v .second) k (λ q. omega arith) (λ q. omega arith)
+        ∙ set-wide-others ws (valueAt n j + 4) (v .first) k (λ q. omega arith) (λ q. omega arith))
+        refl
 
     pub value-top : Same (setValue m n ws j v) ws 0 4
     value-top k a b = value-away k (omega arith)

@@ -4,3 +4,4 @@ pub mod Links
 pub mod Nodes
 pub mod Values
 pub mod Header
+pub mod Small

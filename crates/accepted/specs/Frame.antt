@@ -1,0 +1,47 @@
+-- What the rules of an image depend on: its header, its nodes, its value records and its unused words. An image in which these stay as they were keeps every rule.
+use mathlib.Core.Path.{_≡_, refl, sym, ap, _∙_}
+use mathlib.Core.List.{List, [], _∷_}
+use mathlib.Core.Logic.{_≢_, _⊎_, inl, inr}
+use mathlib.Core.Option.{Option, none, some}
+use Prim.Native.Nat.{ℕ, _+_, _-_, _*_, _≤_, _<_}
+use native.Mathlib.Omega.{arith}
+use Rattle.records.specs.declared.Header.{Header}
+use Rattle.records.specs.declared.Node.{Node}
+use Rattle.records.specs.declared.ValueRecord.{ValueRecord}
+use Rattle.records.specs.Records.{nodeOf, valueRecordOf}
+use Rattle.trees.specs.Tree.{Tree, leaf, inner, top}
+use Rattle.trees.specs.Lists.{All}
+use Rattle.trees.specs.Nodes.{In}
+use Rattle.accepted.specs.Rules.{Holds, Chain}
+
+-- a tree is held where its nodes' records stay, and the bumps do not fall
+pub holds-kept : (h g : Header) (ws vs : List ℕ) → h .nodes .bump ≤ g .nodes .bump → h .values .bump ≤ g .values .bump
+    → (parent low : ℕ) (t : Tree) → ((x : ℕ) → In x t → nodeOf vs x ≡ nodeOf ws x) → Holds h ws parent low t → Holds g vs parent low t
+unfolding Holds
+holds-kept h g ws vs p q parent low (leaf i key v) e k =
+    record { index-some = k .index-some; index-used = omega (arith, k .index-used); here = e i refl ∙ k .here; rises = k .rises; value-some = k .value-some; value-used = omega (arith, k .value-used) }
+holds-kept h g ws vs p q parent low (inner i key c l r) e k =
+    record {
+      index-some = k .index-some;
+      index-used = omega (arith, k .index-used);
+      here = e i (inl refl) ∙ k .here;
+      rises = k .rises;
+      short = k .short;
+      two = k .two;
+      on-left = holds-kept h g ws vs p q i (c + 1) l (λ x z. e x (inr (inl z))) (k .on-left);
+      on-right = holds-kept h g ws vs p q i (c + 1) r (λ x z. e x (inr (inr z))) (k .on-right);
+    }
+
+-- a chain where its records stay free and name the same
+pub chain-kept : (Free Free′ : ℕ → Type 0) (next next′ : ℕ → ℕ) (bump i : ℕ) (xs : List ℕ)
+    → All (λ x. (Free x → Free′ x) × (next′ x ≡ next x)) xs → Chain Free next bump i xs → Chain Free′ next′ bump i xs
+unfolding Chain
+chain-kept Free Free′ next next′ bump i [] e c = c
+chain-kept Free Free′ next next′ bump i (x ∷ xs) e c =
+    record { here = c .here; some = c .some; used = c .used; free = e .0 .0 (c .free); rest = rw (e .0 .1) (chain-kept Free Free′ next next′ bump (next x) xs (e .1) (c .rest)) }
+
+-- each record of a chain lies below the bump
+pub chain-range : (Free : ℕ → Type 0) (next : ℕ → ℕ) (bump i : ℕ) (xs : List ℕ) → Chain Free next bump i xs → All (λ x. (1 ≤ x) × (x < bump) × Free x) xs
+unfolding Chain
+chain-range Free next bump i [] c = tt
+chain-range Free next bump i (x ∷ xs) c = ((c .some, c .used, c .free), chain-range Free next bump (next x) xs (c .rest))

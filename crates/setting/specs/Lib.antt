@@ -1,0 +1,2 @@
+-- Start and the value write: each leaves an accepted image with the list's next state.
+pub mod Write

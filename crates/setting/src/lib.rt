@@ -1,0 +1,1 @@
+// No code: start and the value write on blank and accepted images. Everything is in specs/.
