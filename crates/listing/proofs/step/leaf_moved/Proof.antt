@@ -1,0 +1,42 @@
+-- `step::leaf_moved` meets its contract. Assumes nothing.
+use borrow.Author.Tests.{eq-eqb, ne-eqb}
+use Rattle.listing.specs.Step.{leafMoved}
+use borrow.Author.Needs.{needs}
+use Rattle.listing.proofs.step.leaf_moved.Statement.{statement}
+use Rattle.listing.proofs.step.leaf_moved.Tie as tie
+
+value-of-requires : tie.Need-value-of-requires
+value-of-requires c κs = search needs
+
+returns : tie.Need-returns
+unfolding leafMoved
+returns c = simp (← c .before .before .before .before .value-of .ensures, eq-eqb _ _ (c .before .if1 .taken))
+
+value-record-requires : tie.Need-value-record-requires
+value-record-requires c κs = search needs
+
+live-value-requires : tie.Need-live-value-requires
+live-value-requires c κs = search needs
+
+key-of-requires : tie.Need-key-of-requires
+key-of-requires c κs = search needs
+
+returns-2 : tie.Need-returns-2
+unfolding leafMoved
+returns-2 c = simp (← c .before .before .before .before .before .before .before .before .value-of .ensures, ne-eqb _ _ (c .before .before .before .before .before .if1 .left), ← c .before .before .before .before .value-record .ensures, ← c .before .before .before .live-value .ensures, c .before .before .if2 .taken, c .key-of .ensures)
+
+returns-3 : tie.Need-returns-3
+unfolding leafMoved
+returns-3 c = simp (← c .before .before .before .before .before .before .value-of .ensures, ne-eqb _ _ (c .before .before .before .if1 .left), ← c .before .before .value-record .ensures, ← c .before .live-value .ensures, c .if2 .left)
+
+pub leaf-moved-spec : {M : Type 1} → statement M
+leaf-moved-spec =
+    tie.close
+    (tie.spec
+    value-of-requires
+    returns
+    value-record-requires
+    live-value-requires
+    key-of-requires
+    returns-2
+    returns-3)

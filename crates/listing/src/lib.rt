@@ -1,0 +1,49 @@
+// Listing from both ends: a position that is made from an image and stepped at its front or its back, one entry a step.
+pub mod open; // open.rt: popping and opening nodes until a leaf comes
+pub mod step; // step.rt: making a position, and a step at an end
+
+use records::Done;
+use records::Entry;
+use records::NodeIndex;
+use records::ValueIndex;
+
+// One end of a listing: the nodes that are still to be opened, the next one last, and the value record that was given last (0 for none). Places at or above `count` are
+// what earlier steps left there.
+pub struct Stack {
+    pub places: [NodeIndex; 129],
+    pub count: u32,
+    pub last: ValueIndex,
+}
+
+pub struct Position {
+    pub front: Stack,
+    pub back: Stack,
+    pub ended: bool,
+}
+
+// The answer of making a position.
+pub struct Made {
+    pub answer: Done,
+    pub position: Position,
+}
+
+// The answer of a step: its entry, and the position afterwards.
+pub struct Stepped {
+    pub entry: Entry,
+    pub position: Position,
+}
+
+// Where a stack stands when its leaf has come: the places and the count as popped and opened so far, and the leaf, if no test failed.
+pub struct Reached {
+    pub sound: bool,
+    pub places: [NodeIndex; 129],
+    pub count: u32,
+    pub leaf: NodeIndex,
+}
+
+// What a leaf comes to: the near end, the mark, and the entry.
+pub struct Moved {
+    pub near: Stack,
+    pub ended: bool,
+    pub entry: Entry,
+}
