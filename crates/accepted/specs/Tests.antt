@@ -88,9 +88,9 @@ header-rules m n h e =
       root-none = λ z. root ∙ ap (λ (b : Bool). cond b 0 1) (eq-eqb (h .values .size) 0 z);
       root-one = λ z. root ∙ ap (λ (b : Bool). cond b 0 1) (ne-eqb (h .values .size) 0 z);
       empty-head = λ z. ⊎-elim
-      (λ (x : not (eqb (h .values .size) 0) ≡ true). absurd (eqb-false (h .values .size) 0 (not-true _ x) z))
-      (λ (x : eqb (h .nodes .head) 1 ≡ true). eqb-true (h .nodes .head) 1 x)
-      (or-cases (not (eqb (h .values .size) 0)) (eqb (h .nodes .head) 1) empty);
+          (λ (x : not (eqb (h .values .size) 0) ≡ true). absurd (eqb-false (h .values .size) 0 (not-true _ x) z))
+          (λ (x : eqb (h .nodes .head) 1 ≡ true). eqb-true (h .nodes .head) 1 x)
+          (or-cases (not (eqb (h .values .size) 0)) (eqb (h .nodes .head) 1) empty);
       nodes = arena-rules (h .nodes) n (search (and-l, and-r) depth 8);
       values = arena-rules (h .values) m (search (and-l, and-r) depth 8);
     }
@@ -155,9 +155,9 @@ free-node-rules h i x e =
       link = link-rules (h .nodes .bump) i (x .left .0) linked;
       parent-used = ltb-true (x .parent .0) (h .nodes .bump) (search (and-l, and-r) depth 10);
       first-parent = λ z. ⊎-elim
-      (λ (y : not (eqb i 1) ≡ true). absurd (eqb-false i 1 (not-true _ y) z))
-      (λ (y : eqb (x .parent .0) 0 ≡ true). eqb-true (x .parent .0) 0 y)
-      (or-cases (not (eqb i 1)) (eqb (x .parent .0) 0) first);
+          (λ (y : not (eqb i 1) ≡ true). absurd (eqb-false i 1 (not-true _ y) z))
+          (λ (y : eqb (x .parent .0) 0 ≡ true). eqb-true (x .parent .0) 0 y)
+          (or-cases (not (eqb i 1)) (eqb (x .parent .0) 0) first);
       prefix-most = leb-true (x .prefix) 128 (search (and-l, and-r) depth 10);
     }
 

@@ -1,4 +1,4 @@
--- The visited-node test and a lookup's turn by the kind of node, as the code of the lookup makes them: the rest of the test where Value is 0, and where it is not. `inner` and
+-- The visited-node test and the turns of lookup and remove by the kind of node, as the code makes them: the rest of the test where Value is 0, and where it is not. `inner` and
 -- `leaf` say that they are the descent's step.
 use mathlib.Core.Path.{_≡_, refl, sym, ap, _∙_}
 use mathlib.Core.List.{List}
@@ -21,7 +21,7 @@ use Rattle.records.specs.Tests.{usedNode, formOk, nodeOk}
 use Rattle.descent.specs.declared.Stop.the-variants.{Leaf, Parted, Damaged}
 use Rattle.descent.specs.declared.Step.{Step}
 use Rattle.descent.specs.declared.Step.the-variants.{Down, Halt}
-use Rattle.descent.specs.Descent.{childOf, lookupTurn, stepOf}
+use Rattle.descent.specs.Descent.{childOf, lookupTurn, reachTurn, stepOf}
 
 -- padding, and the node that it was reached from
 abbrev pub isJoined : ℕ → Node → Bool
@@ -53,6 +53,13 @@ leafStep h key i above low x =
     (cond (ltb (common (numberOf key) (numberOf (x .key))) (x .prefix)) (Halt (Parted i)) (Halt (Leaf i (x .value))))
     (Halt Damaged)
 
+unfoldable pub reachInner : Header → Key → NodeIndex → NodeIndex → ℕ → Node → Step
+reachInner h key i above low x = cond (innerOk h (above .0) low x) (Down (childOf key x) (x .prefix + 1)) (Halt Damaged)
+
+unfoldable pub reachLeaf : Header → Key → NodeIndex → NodeIndex → ℕ → Node → Step
+reachLeaf h key i above low x =
+    cond (leafOk h (above .0) low x) (cond (eqb (numberOf key) (numberOf (x .key))) (Halt (Leaf i (x .value))) (Halt (Parted i))) (Halt Damaged)
+
 pub forked-small : (x : Node) → isForked x ≡ true → x .prefix < 128
 forked-small x e = ltb-true (x .prefix) 128 (search (and-l, and-r))
 
@@ -79,19 +86,37 @@ is-true : (a : Bool) → Bool·beq true a ≡ a
 is-true true = refl
 is-true false = refl
 
-module _ (h : Header) (ws : List ℕ) (key : Key) (i above : NodeIndex) (low : ℕ) where
-  pub unused : usedNode h (i .0) ≡ false → stepOf (lookupTurn key) h ws i above low ≡ Halt Damaged
+-- for any turn
+module _ (turn : NodeIndex → Node → Step) (h : Header) (ws : List ℕ) (i above : NodeIndex) (low : ℕ) where
+  pub unused : usedNode h (i .0) ≡ false → stepOf turn h ws i above low ≡ Halt Damaged
   unfolding stepOf nodeOk formOk
   unused u = simp u
 
   module _ (x : Node) (node : x ≡ nodeOf ws (i .0)) (u : usedNode h (i .0) ≡ true) where
-    pub inner : x .value .0 ≡ 0 → stepOf (lookupTurn key) h ws i above low ≡ innerStep h key i above low x
-    unfolding stepOf nodeOk formOk lookupTurn innerStep
-    inner v = simp (← node, u, v, inner-order (eqb (x .padding) 0) (eqb (x .parent .0) (above .0)) (leb low (x .prefix)))
+    any-inner : x .value .0 ≡ 0 → stepOf turn h ws i above low ≡ cond (innerOk h (above .0) low x) (turn i x) (Halt Damaged)
+    unfolding stepOf nodeOk formOk
+    any-inner v = simp (← node, u, v, inner-order (eqb (x .padding) 0) (eqb (x .parent .0) (above .0)) (leb low (x .prefix)))
 
-    pub leaf : (x .value .0 ≡ 0 → ⊥) → stepOf (lookupTurn key) h ws i above low ≡ leafStep h key i above low x
-    unfolding stepOf nodeOk formOk lookupTurn leafStep
-    leaf v =
+    any-leaf : (x .value .0 ≡ 0 → ⊥) → stepOf turn h ws i above low ≡ cond (leafOk h (above .0) low x) (turn i x) (Halt Damaged)
+    unfolding stepOf nodeOk formOk
+    any-leaf v =
         let one : leb 1 (x .value .0) ≡ true = le-leb 1 (x .value .0) (some (x .value .0) v) in
         let no : eqb (x .value .0) 0 ≡ false = ne-eqb (x .value .0) 0 v in
         simp (← node, u, one, no, or-false, is-true, inner-order (eqb (x .padding) 0) (eqb (x .parent .0) (above .0)) (leb low (x .prefix)))
+
+module _ (h : Header) (ws : List ℕ) (key : Key) (i above : NodeIndex) (low : ℕ) (x : Node) (node : x ≡ nodeOf ws (i .0)) (u : usedNode h (i .0) ≡ true) where
+  pub inner : x .value .0 ≡ 0 → stepOf (lookupTurn key) h ws i above low ≡ innerStep h key i above low x
+  unfolding lookupTurn innerStep
+  inner v = any-inner (lookupTurn key) h ws i above low x node u v ∙ simp v
+
+  pub leaf : (x .value .0 ≡ 0 → ⊥) → stepOf (lookupTurn key) h ws i above low ≡ leafStep h key i above low x
+  unfolding lookupTurn leafStep
+  leaf v = any-leaf (lookupTurn key) h ws i above low x node u v ∙ simp (ne-eqb (x .value .0) 0 v)
+
+  pub reach-inner : x .value .0 ≡ 0 → stepOf (reachTurn key) h ws i above low ≡ reachInner h key i above low x
+  unfolding reachTurn reachInner
+  reach-inner v = any-inner (reachTurn key) h ws i above low x node u v ∙ simp v
+
+  pub reach-leaf : (x .value .0 ≡ 0 → ⊥) → stepOf (reachTurn key) h ws i above low ≡ reachLeaf h key i above low x
+  unfolding reachTurn reachLeaf
+  reach-leaf v = any-leaf (reachTurn key) h ws i above low x node u v ∙ simp (ne-eqb (x .value .0) 0 v)

@@ -17,7 +17,7 @@ ghost use Prim.Native.Nat.{_+_, _*_, _≤_};
 ghost use lib.ListN.{length};
 ghost use Rattle.words.specs.Words.{words};
 ghost use Rattle.records.specs.Room.{Room};
-ghost use Rattle.descent.specs.ByKind.{isJoined, isForked, leafOk, innerStep, leafStep};
+ghost use Rattle.descent.specs.ByKind.{isJoined, isForked, leafOk, innerStep, leafStep, reachInner, reachLeaf};
 ghost use Rattle.descent.specs.Descent.{childOf, sideOf, lookupTurn, reachTurn, endTurn, stepOf, descend, findOf, reachOf, endOf};
 
 // Why a descent stopped, and where: at a leaf that fits, with its value record; at a node where the key parts from the map; at damage.
@@ -150,19 +150,35 @@ pub fn find(img: &[u8], h: Header, key: Key) -> Stop
 
 // ---- by a key's bits alone
 
-fn reach_turn(key: Key, i: NodeIndex, x: Node) -> Step
-    requires { ⌜ x .prefix ≤ 128 ⌝ }
-    ensures { λ r. ⌜ r ≡ reachTurn key i x ⌝ }
+// An inner node: damaged, or down.
+fn reach_inner(h: Header, key: Key, i: NodeIndex, above: NodeIndex, low: u64, x: Node) -> Step
+    ensures { λ r. ⌜ r ≡ reachInner h key i above low x ⌝ }
 {
-    if x.value.0 == 0 {
-        let next = child(key, x);
-        return Step::Down(next, x.prefix + 1);
+    if is_joined(above, x) {
+        if low <= x.prefix {
+            if is_forked(x) {
+                if (above.0 != 0) | (h.values.size != 1) {
+                    let next = child(key, x);
+                    return Step::Down(next, x.prefix + 1);
+                }
+            }
+        }
     }
-    if same(key, x.key) {
-        let j = x.value;
-        return Step::Halt(Stop::Leaf(i, j));
+    Step::Halt(Stop::Damaged)
+}
+
+// A leaf: damaged, the key's, or another's.
+fn reach_leaf(h: Header, key: Key, i: NodeIndex, above: NodeIndex, low: u64, x: Node) -> Step
+    ensures { λ r. ⌜ r ≡ reachLeaf h key i above low x ⌝ }
+{
+    if leaf_ok(h, above, low, x) {
+        if same(key, x.key) {
+            let j = x.value;
+            return Step::Halt(Stop::Leaf(i, j));
+        }
+        return Step::Halt(Stop::Parted(i));
     }
-    Step::Halt(Stop::Parted(i))
+    Step::Halt(Stop::Damaged)
 }
 
 fn reach_step(img: &[u8], h: Header, key: Key, i: NodeIndex, above: NodeIndex, low: u64) -> Step
@@ -171,9 +187,10 @@ fn reach_step(img: &[u8], h: Header, key: Key, i: NodeIndex, above: NodeIndex, l
 {
     if is_used(h, i) {
         let x = node_in(img, i);
-        if node_ok(h, i, above, low, x) {
-            return reach_turn(key, i, x);
+        if x.value.0 == 0 {
+            return reach_inner(h, key, i, above, low, x);
         }
+        return reach_leaf(h, key, i, above, low, x);
     }
     Step::Halt(Stop::Damaged)
 }

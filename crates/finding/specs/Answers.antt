@@ -176,7 +176,6 @@ module _ {m n : ℕ} {ws : List ℕ} (a : Accepted m n ws) where
   image-opened : openOf m n ws ≡ Good (headerOf n ws)
   image-opened = opened m n ws (a .shape) (a .header)
 
-
   -- ---- get and the value write's target
 
   -- the target of a key is its leaf and its value, or it is absent

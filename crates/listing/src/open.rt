@@ -39,7 +39,14 @@ fn far(back: bool, x: Node) -> NodeIndex
 }
 
 // Opens nodes from a tested one on until a leaf comes.
-fn open_to(img: &[u8], h: Header, back: bool, first: NodeIndex, stack: [NodeIndex; 129], held: u32) -> Reached
+fn open_to(
+    img: &[u8],
+    h: Header,
+    back: bool,
+    first: NodeIndex,
+    stack: [NodeIndex; 129],
+    held: u32,
+) -> Reached
     requires { ⌜ Room h (length (words (now img))) ⌝ }
     requires { ⌜ formOk h (first .0) (nodeOf (words (now img)) (first .0)) ≡ true ⌝ }
     requires { ⌜ held ≤ 129 ⌝ }
@@ -51,10 +58,20 @@ fn open_to(img: &[u8], h: Header, back: bool, first: NodeIndex, stack: [NodeInde
     loop {
         let x = node_in(img, i);
         if x.value.0 != 0 {
-            return Reached { sound: true, places, count, leaf: i };
+            return Reached {
+                sound: true,
+                places,
+                count,
+                leaf: i,
+            };
         }
         if 127 < count {
-            return Reached { sound: false, places, count, leaf: i };
+            return Reached {
+                sound: false,
+                places,
+                count,
+                leaf: i,
+            };
         }
         if kids_ok(img, h, i, x) {
             let at = count as usize;
@@ -63,7 +80,12 @@ fn open_to(img: &[u8], h: Header, back: bool, first: NodeIndex, stack: [NodeInde
             count += 1;
             i = near(back, x);
         } else {
-            return Reached { sound: false, places, count, leaf: i };
+            return Reached {
+                sound: false,
+                places,
+                count,
+                leaf: i,
+            };
         }
     }
 }
@@ -83,5 +105,10 @@ pub fn pop_to(img: &[u8], h: Header, back: bool, s: Stack) -> Reached
             return open_to(img, h, back, i, places, count);
         }
     }
-    Reached { sound: false, places, count: s.count, leaf: NodeIndex(0) }
+    Reached {
+        sound: false,
+        places,
+        count: s.count,
+        leaf: NodeIndex(0),
+    }
 }

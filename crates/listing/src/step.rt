@@ -6,6 +6,9 @@ use crate::Reached;
 use crate::Stack;
 use crate::Stepped;
 use crate::open::pop_to;
+use keys::Key;
+use node_allocator::Arena;
+use node_allocator::record_at;
 use records::Done;
 use records::Entry;
 use records::Header;
@@ -17,9 +20,6 @@ use records::open::is_image;
 use records::open::open_image;
 use records::read::value_record;
 use records::tests::live_value;
-use node_allocator::Arena;
-use node_allocator::record_at;
-use keys::Key;
 ghost use mathlib.Core.Path.{_≡_};
 ghost use Prim.Native.Nat.{_+_, _-_, _*_, _≤_, _<_};
 ghost use mathlib.Core.Bool.{true, false};
@@ -37,7 +37,11 @@ ghost use Rattle.listing.specs.Step.{leafMoved, openedMoved, movedOf, ne
 fn empty_stack() -> Stack
     ensures { λ r. ⌜ r ≡ emptyStack ⌝ }
 {
-    Stack { places: [NodeIndex(0); 129], count: 0, last: ValueIndex(0) }
+    Stack {
+        places: [NodeIndex(0); 129],
+        count: 0,
+        last: ValueIndex(0),
+    }
 }
 
 fn root_stack(root: NodeIndex) -> Stack
@@ -45,13 +49,21 @@ fn root_stack(root: NodeIndex) -> Stack
 {
     let mut places = [NodeIndex(0); 129];
     places[0] = root;
-    Stack { places, count: 1, last: ValueIndex(0) }
+    Stack {
+        places,
+        count: 1,
+        last: ValueIndex(0),
+    }
 }
 
 fn both_ends(s: Stack) -> Position
     ensures { λ r. ⌜ r ≡ bothEnds s ⌝ }
 {
-    Position { front: s, back: s, ended: false }
+    Position {
+        front: s,
+        back: s,
+        ended: false,
+    }
 }
 
 // A position before the first entry and behind the last. It tests shape and header only.
@@ -61,11 +73,20 @@ pub fn list(img: &[u8], m: u32, n: u32) -> Made
     match open_image(img, m, n) {
         Opened::Good(h) => {
             if h.values.size == 0 {
-                return Made { answer: Done::Yes, position: both_ends(empty_stack()) };
+                return Made {
+                    answer: Done::Yes,
+                    position: both_ends(empty_stack()),
+                };
             }
-            Made { answer: Done::Yes, position: both_ends(root_stack(h.root)) }
+            Made {
+                answer: Done::Yes,
+                position: both_ends(root_stack(h.root)),
+            }
         }
-        Opened::Shut(r) => Made { answer: Done::Refused(r), position: both_ends(empty_stack()) },
+        Opened::Shut(r) => Made {
+            answer: Done::Refused(r),
+            position: both_ends(empty_stack()),
+        },
     }
 }
 
@@ -82,7 +103,10 @@ fn key_of(img: &[u8], n: u32, i: NodeIndex) -> Key
     ensures { λ r. ⌜ r ≡ nodeOf (words (now (img .entry))) (i .0) .key ⌝ }
 {
     let at = record_at(Arena::Nodes { nodes: n }, i.0) + 4;
-    Key { high: words::wide(img, at + 2), low: words::wide(img, at) }
+    Key {
+        high: words::wide(img, at + 2),
+        low: words::wide(img, at),
+    }
 }
 
 // What the leaf comes to: the ends meet, or its value record is tested and its entry given.
@@ -95,29 +119,65 @@ fn leaf_moved(img: &[u8], n: u32, s: Stack, other: ValueIndex, reached: Reached)
     let j = value_of(img, n, leaf);
     if j.0 == other.0 {
         let last = s.last;
-        return Moved { near: Stack { places, count, last }, ended: true, entry: Entry::Refused(Refusal::Absent) };
+        return Moved {
+            near: Stack {
+                places,
+                count,
+                last,
+            },
+            ended: true,
+            entry: Entry::Refused(Refusal::Absent),
+        };
     }
     let record = value_record(img, n, j);
     if live_value(record) {
         let v = record.value;
-        return Moved { near: Stack { places, count, last: j }, ended: false, entry: Entry::Is(key_of(img, n, leaf), v) };
+        return Moved {
+            near: Stack {
+                places,
+                count,
+                last: j,
+            },
+            ended: false,
+            entry: Entry::Is(key_of(img, n, leaf), v),
+        };
     }
-    Moved { near: s, ended: false, entry: Entry::Refused(Refusal::Damaged) }
+    Moved {
+        near: s,
+        ended: false,
+        entry: Entry::Refused(Refusal::Damaged),
+    }
 }
 
-fn moved(img: &[u8], n: u32, h: Header, back: bool, ended: bool, s: Stack, other: ValueIndex) -> Moved
+fn moved(
+    img: &[u8],
+    n: u32,
+    h: Header,
+    back: bool,
+    ended: bool,
+    s: Stack,
+    other: ValueIndex,
+) -> Moved
     requires { ⌜ Room h (length (words (now img))) ⌝ }
     requires { ⌜ s .count ≤ 129 ⌝ }
     ensures { λ r. ⌜ r ≡ movedOf back n h (words (now (img .entry))) ended s other ⌝ }
 {
     if ended | (s.count == 0) {
-        return Moved { near: s, ended, entry: Entry::Refused(Refusal::Absent) };
+        return Moved {
+            near: s,
+            ended,
+            entry: Entry::Refused(Refusal::Absent),
+        };
     }
     let reached = pop_to(img, h, back, s);
     if reached.sound {
         return leaf_moved(img, n, s, other, reached);
     }
-    Moved { near: s, ended: false, entry: Entry::Refused(Refusal::Damaged) }
+    Moved {
+        near: s,
+        ended: false,
+        entry: Entry::Refused(Refusal::Damaged),
+    }
 }
 
 fn step_opened(img: &[u8], n: u32, h: Header, back: bool, p: Position) -> Stepped
@@ -131,18 +191,35 @@ fn step_opened(img: &[u8], n: u32, h: Header, back: bool, p: Position) -> Steppe
         let m = moved(img, n, h, true, p.ended, rear, front.last);
         let near = m.near;
         let entry = m.entry;
-        return Stepped { entry, position: Position { front, back: near, ended: m.ended } };
+        return Stepped {
+            entry,
+            position: Position {
+                front,
+                back: near,
+                ended: m.ended,
+            },
+        };
     }
     let m = moved(img, n, h, false, p.ended, front, rear.last);
     let near = m.near;
     let entry = m.entry;
-    Stepped { entry, position: Position { front: near, back: rear, ended: m.ended } }
+    Stepped {
+        entry,
+        position: Position {
+            front: near,
+            back: rear,
+            ended: m.ended,
+        },
+    }
 }
 
 fn refused(p: Position, r: Refusal) -> Stepped
     ensures { λ s. ⌜ s ≡ refusedStep p r ⌝ }
 {
-    Stepped { entry: Entry::Refused(r), position: p }
+    Stepped {
+        entry: Entry::Refused(r),
+        position: p,
+    }
 }
 
 fn step(img: &[u8], m: u32, n: u32, back: bool, p: Position) -> Stepped

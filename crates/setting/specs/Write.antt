@@ -118,16 +118,15 @@ module _ {m n : ℕ} {ws : List ℕ} (a : Accepted m n ws) (j : ℕ) (low : 1 �
             at-root = k .at-root;
             counted = k .counted;
             held = holds-kept (headerOf n ws) (headerOf n ws) ws (setValue m n ws j v) (omega arith) (omega arith) 0 0 t
-            (λ x q. let r = in-range (headerOf n ws) ws 0 0 t x (k .held) q in node-kept x (r .0) (r .1)) (k .held);
+                (λ x q. let r = in-range (headerOf n ws) ws 0 0 t x (k .held) q in node-kept x (r .0) (r .1)) (k .held);
           }
 
       live-kept : (es : List (Key × ℕ)) → All (λ e. e .1 ≢ 0) es → All (λ e. Live (valueRecordOf n ws (e .1))) es → All (λ e. Live (valueRecordOf n (setValue m n ws j v) (e .1))) es
       live-kept [] z l = tt
-      live-kept (e ∷ es) z l =
-          (
-            registers-kept (e .1) (pos-of-ne-zero (z .0)) Live (λ r p. record { zero0 = p .zero0; zero1 = p .zero1; zero2 = p .zero2; zero3 = p .zero3 }) (l .0),
-            live-kept es (z .1) (l .1),
-          )
+      live-kept (e ∷ es) z l = (
+        registers-kept (e .1) (pos-of-ne-zero (z .0)) Live (λ r p. record { zero0 = p .zero0; zero1 = p .zero1; zero2 = p .zero2; zero3 = p .zero3 }) (l .0),
+        live-kept es (z .1) (l .1),
+      )
 
       free-kept : (x : ℕ) → 1 ≤ x → FreeValue (headerOf n ws) x (valueRecordOf n ws x) → FreeValue (headerOf n ws) x (valueRecordOf n (setValue m n ws j v) x)
       free-kept x l f = registers-kept x l (FreeValue (headerOf n ws) x) (λ r p. record { link = p .link; zero1 = p .zero1; zero2 = p .zero2; zero3 = p .zero3 }) f

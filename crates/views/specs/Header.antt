@@ -172,19 +172,17 @@ module _ (n : ℕ) (ws : List ℕ) where
   module _ (m : ℕ) (vs : List ℕ) (i : ℕ) (low : 1 ≤ i) where
     nodes-step : i ≤ n → ((k : ℕ) → Outside (Nodes n) k → k ≢ recordAt (Nodes n) i → getD vs k 0 ≡ getD ws k 0) → Same vs ws 0 4 × (countsOf (Values n m) vs ≡ countsOf (Values n m) ws)
     unfolding headerAt recordAt
-    nodes-step high others =
-        (
-          λ k a b. others k (inl (omega arith)) (λ e. omega arith),
-          counts-kept (Values n m) vs ws (λ k a b. others k (inr (omega arith)) (λ e. omega arith)),
-        )
+    nodes-step high others = (
+      λ k a b. others k (inl (omega arith)) (λ e. omega arith),
+      counts-kept (Values n m) vs ws (λ k a b. others k (inr (omega arith)) (λ e. omega arith)),
+    )
 
     values-step : ((k : ℕ) → Outside (Values n m) k → k ≢ recordAt (Values n m) i → getD vs k 0 ≡ getD ws k 0) → Same vs ws 0 4 × (countsOf (Nodes n) vs ≡ countsOf (Nodes n) ws)
     unfolding headerAt recordAt
-    values-step others =
-        (
-          λ k a b. others k (inl (omega arith)) (λ e. omega arith),
-          counts-kept (Nodes n) vs ws (λ k a b. others k (inl (omega arith)) (λ e. omega arith)),
-        )
+    values-step others = (
+      λ k a b. others k (inl (omega arith)) (λ e. omega arith),
+      counts-kept (Nodes n) vs ws (λ k a b. others k (inl (omega arith)) (λ e. omega arith)),
+    )
 
   pub node-added-apart : (m : ℕ) → Inside (Nodes n) (countsOf (Nodes n) ws .head)
       → Same (addImage (Nodes n) ws) ws 0 4 × (countsOf (Values n m) (addImage (Nodes n) ws) ≡ countsOf (Values n m) ws)

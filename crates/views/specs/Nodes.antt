@@ -55,8 +55,7 @@ content-same : (vs ws : List ℕ) (k : ℕ) → Same vs ws k (k + 8)
     → (keyAt vs k ≡ keyAt ws k) × (wideAt vs (k + 4) ≡ wideAt ws (k + 4)) × (wideAt vs (k + 6) ≡ wideAt ws (k + 6))
 content-same vs ws k f =
     let low = wide-same vs ws k (f k (omega arith) (omega arith)) (f (k + 1) (omega arith) (omega arith)) in
-    let high = wide-same vs ws (k + 2) (f (k + 2) (omega arith) (omega arith)) (f (k + 2 + 1) (omega arith) (omega arith)) in
-    (
+    let high = wide-same vs ws (k + 2) (f (k + 2) (omega arith) (omega arith)) (f (k + 2 + 1) (omega arith) (omega arith)) in (
       simp (low, high),
       wide-same vs ws (k + 4) (f (k + 4) (omega arith) (omega arith)) (f (k + 4 + 1) (omega arith) (omega arith)),
       wide-same vs ws (k + 6) (f (k + 6) (omega arith) (omega arith)) (f (k + 6 + 1) (omega arith) (omega arith)),

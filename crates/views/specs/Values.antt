@@ -133,7 +133,6 @@ module _ (m n : ℕ) (ws : List ℕ) (room : RoomForAll m n ws) where
           three : getD (valueSetAt ws (valueAt n j) v) (valueAt n j + 3) 0 ≡ getD ws (valueAt n j + 3) 0
           three = others (valueAt n j + 3) (inl (omega arith))
 
-
           place : valueAt n j + 4 + 2 ≡ valueAt n j + 6
           place = omega arith
 

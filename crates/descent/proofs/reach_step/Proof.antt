@@ -1,9 +1,7 @@
--- `descent::reach_step` meets its contract. Assumes nothing.
+-- `descent::reach_step` meets its contract, by the kind of node. Assumes nothing.
 use mathlib.Core.Path.{sym, _∙_}
 use Rattle.records.specs.Room.{used-within}
-use Rattle.records.specs.Tests.{nodeOk, formOk}
-use Rattle.descent.specs.Descent.{stepOf}
-use Rattle.descent.specs.Laws.{passed}
+use Rattle.descent.specs.ByKind.{unused, reach-inner, reach-leaf}
 use borrow.Author.Needs.{needs}
 use Rattle.descent.proofs.reach_step.Statement.{statement}
 use Rattle.descent.proofs.reach_step.Tie as tie
@@ -14,23 +12,20 @@ is-used-requires c κs = search needs
 node-in-requires : tie.Need-node-in-requires
 node-in-requires c κs = used-within (c .before .before .before .args .h) (c .before .before .before .args .i .0) _ (sym (c .before .is-used .ensures) ∙ c .if1 .taken) (c .before .before .before .pre)
 
-node-ok-requires : tie.Need-node-ok-requires
-node-ok-requires c κs = search needs
-
-reach-turn-requires : tie.Need-reach-turn-requires
-reach-turn-requires c κs = passed (c .before .before .before .before .before .before .args .h) (c .before .before .before .before .before .before .args .i .0) (c .before .before .before .before .before .before .args .above .0) (c .before .before .before .before .before .before .args .low) _ (sym (c .before .node-ok .ensures) ∙ c .if2 .taken) .small
+reach-inner-requires : tie.Need-reach-inner-requires
+reach-inner-requires c κs = search needs
 
 returns : tie.Need-returns
-unfolding stepOf
-returns c = simp (← c .before .before .before .node-in .ensures, ← c .before .before .node-ok .ensures, c .before .if2 .taken, c .reach-turn .ensures)
+returns c = c .reach-inner .ensures ∙ sym (reach-inner _ _ _ _ _ _ _ (c .before .before .before .node-in .ensures) (sym (c .before .before .before .before .before .is-used .ensures) ∙ c .before .before .before .before .if1 .taken) (c .before .if2 .taken))
+
+reach-leaf-requires : tie.Need-reach-leaf-requires
+reach-leaf-requires c κs = search needs
 
 returns-2 : tie.Need-returns-2
-unfolding stepOf
-returns-2 c = simp (← c .before .before .node-in .ensures, ← c .before .node-ok .ensures, c .if2 .left)
+returns-2 c = c .reach-leaf .ensures ∙ sym (reach-leaf _ _ _ _ _ _ _ (c .before .before .before .node-in .ensures) (sym (c .before .before .before .before .before .is-used .ensures) ∙ c .before .before .before .before .if1 .taken) (c .before .if2 .left))
 
 returns-3 : tie.Need-returns-3
-unfolding stepOf nodeOk formOk
-returns-3 c = simp (← c .before .is-used .ensures, c .if1 .left)
+returns-3 c = sym (unused _ _ _ _ _ _ (sym (c .before .is-used .ensures) ∙ c .if1 .left))
 
 pub reach-step-spec : {M : Type 1} → statement M
 reach-step-spec =
@@ -38,8 +33,8 @@ reach-step-spec =
     (tie.spec
     is-used-requires
     node-in-requires
-    node-ok-requires
-    reach-turn-requires
+    reach-inner-requires
     returns
+    reach-leaf-requires
     returns-2
     returns-3)

@@ -19,14 +19,13 @@ enum-known-h : tie.Need-enum-known-h
 enum-known-h c = search needs
 
 step-opened-requires : tie.Need-step-opened-requires
-step-opened-requires c κs =
-    (
-      simp (← opened-words _ _ _ _ (sym (c .before .before .before .open-image .ensures) ∙ c .before .h .given .1)) (room _ _ _ _ (sym (c .before .before .before .open-image .ensures) ∙ c .before .h .given .1)),
-      (
-        leb-true (c .before .before .before .before .before .before .before .before .before .before .args .p .front .count) 129 (and-l (leb (c .before .before .before .before .before .before .before .before .before .before .args .p .front .count) 129) (leb (c .before .before .before .before .before .before .before .before .before .before .args .p .back .count) 129) (c .before .before .before .before .if2 .taken)),
-        leb-true (c .before .before .before .before .before .before .before .before .before .before .args .p .back .count) 129 (and-r (leb (c .before .before .before .before .before .before .before .before .before .before .args .p .front .count) 129) (leb (c .before .before .before .before .before .before .before .before .before .before .args .p .back .count) 129) (c .before .before .before .before .if2 .taken)),
-      ),
-    )
+step-opened-requires c κs = (
+  simp (← opened-words _ _ _ _ (sym (c .before .before .before .open-image .ensures) ∙ c .before .h .given .1)) (room _ _ _ _ (sym (c .before .before .before .open-image .ensures) ∙ c .before .h .given .1)),
+  (
+    leb-true (c .before .before .before .before .before .before .before .before .before .before .args .p .front .count) 129 (and-l (leb (c .before .before .before .before .before .before .before .before .before .before .args .p .front .count) 129) (leb (c .before .before .before .before .before .before .before .before .before .before .args .p .back .count) 129) (c .before .before .before .before .if2 .taken)),
+    leb-true (c .before .before .before .before .before .before .before .before .before .before .args .p .back .count) 129 (and-r (leb (c .before .before .before .before .before .before .before .before .before .before .args .p .front .count) 129) (leb (c .before .before .before .before .before .before .before .before .before .before .args .p .back .count) 129) (c .before .before .before .before .if2 .taken)),
+  ),
+)
 
 enum-known-r : tie.Need-enum-known-r
 enum-known-r c = search needs

@@ -1,0 +1,53 @@
+-- `full_check::opened_check` meets its contract. Assumes nothing.
+use mathlib.Core.Path.{sym, _∙_}
+use Rattle.records.specs.Room.{room, opened-words}
+use Rattle.full_check.specs.Check.{openedCheck}
+use borrow.Author.Needs.{needs}
+use Rattle.full_check.proofs.opened_check.Statement.{statement}
+use Rattle.full_check.proofs.opened_check.Tie as tie
+
+open-image-requires : tie.Need-open-image-requires
+open-image-requires c κs = search needs
+
+enum-known-h : tie.Need-enum-known-h
+enum-known-h c = search needs
+
+records-ok-requires : tie.Need-records-ok-requires
+records-ok-requires c κs =
+    let e = sym (c .before .before .before .before .open-image .ensures) ∙ c .before .before .h .given .1 in
+    (simp (← opened-words _ _ _ _ e) (room _ _ _ _ e), c .before .before .before .before .before .before .before .pre)
+
+same-length : tie.Need-same-length
+same-length c = search needs
+
+returns : tie.Need-returns
+unfolding openedCheck
+returns c = simp (← c .before .before .before .before .before .before .before .before .open-image .ensures, c .before .before .before .before .before .before .h .given .1) (simp (opened-words _ _ _ _ (sym (c .before .before .before .before .before .before .before .before .open-image .ensures) ∙ c .before .before .before .before .before .before .h .given .1), ← c .before .before .before .records-ok .ensures, c .if1 .taken))
+
+enum-known-r : tie.Need-enum-known-r
+enum-known-r c = search needs
+
+same-length-2 : tie.Need-same-length-2
+same-length-2 c = search needs
+
+returns-2 : tie.Need-returns-2
+unfolding openedCheck
+returns-2 c = simp (← c .before .before .before .before .before .before .before .before .open-image .ensures, c .before .before .before .before .before .before .h .given .1) (simp (opened-words _ _ _ _ (sym (c .before .before .before .before .before .before .before .before .open-image .ensures) ∙ c .before .before .before .before .before .before .h .given .1), ← c .before .before .before .records-ok .ensures, c .if1 .left))
+
+returns-3 : tie.Need-returns-3
+unfolding openedCheck
+returns-3 c = simp (← c .before .before .before .open-image .ensures, c .before .r .given .1)
+
+pub opened-check-spec : {M : Type 1} → statement M
+opened-check-spec =
+    tie.close
+    (tie.spec
+    open-image-requires
+    enum-known-h
+    records-ok-requires
+    same-length
+    returns
+    enum-known-r
+    same-length-2
+    returns-2
+    returns-3)

@@ -1,0 +1,105 @@
+// The free chains, from each arena's head to its bump, and the records that were never used.
+use node_allocator::Arena;
+use node_allocator::Counts;
+use node_allocator::record_at;
+use records::Header;
+use records::NodeIndex;
+use records::ValueIndex;
+use records::read::node_in;
+use records::read::value_record;
+use records::tests::free_node;
+use records::tests::free_value;
+use records::tests::is_used;
+ghost use mathlib.Core.Path.{_≡_};
+ghost use Prim.Native.Nat.{_+_, _-_, _*_};
+ghost use lib.ListN.{length};
+ghost use Rattle.words.specs.Words.{words};
+ghost use Rattle.records.specs.Room.{Room};
+ghost use Rattle.full_check.specs.Chains.{freeCount, nodeChain, valueChain, nodesUnused, valuesUnused};
+
+// The difference, and 0 where b is the larger.
+fn less(a: u64, b: u64) -> u64
+    ensures { λ r. ⌜ r ≡ a - b ⌝ }
+{
+    if a < b { 0 } else { a - b }
+}
+
+// How many records below the bump are free.
+fn free_count(c: Counts) -> u64
+    ensures { λ r. ⌜ r ≡ freeCount c ⌝ }
+{
+    less(less(c.bump as u64, 1), c.size)
+}
+
+// The chain of free nodes ends at the bump after as many as are free.
+pub fn node_chain(img: &[u8], h: Header) -> bool
+    requires { ⌜ Room h (length (words (now img))) ⌝ }
+    ensures { λ r. ⌜ r ≡ nodeChain h (words (now (img .entry))) ⌝ }
+{
+    let nodes = h.nodes;
+    let mut left = free_count(nodes);
+    let mut i = nodes.head;
+    while 0 < left {
+        if !is_used(h, NodeIndex(i)) {
+            return false;
+        }
+        let x = node_in(img, NodeIndex(i));
+        if !free_node(h, NodeIndex(i), x) {
+            return false;
+        }
+        i = x.left.0;
+        left -= 1;
+    }
+    i == nodes.bump
+}
+
+// The same of the free value records.
+pub fn value_chain(img: &[u8], n: u32, h: Header) -> bool
+    ensures { λ r. ⌜ r ≡ valueChain n h (words (now (img .entry))) ⌝ }
+{
+    let values = h.values;
+    let mut left = free_count(values);
+    let mut j = values.head;
+    while 0 < left {
+        if !((1 <= j) & (j < values.bump)) {
+            return false;
+        }
+        let x = value_record(img, n, ValueIndex(j));
+        if !free_value(h, ValueIndex(j), x) {
+            return false;
+        }
+        j = x.register0;
+        left -= 1;
+    }
+    j == values.bump
+}
+
+// Every node from the bump on is zeros.
+pub fn nodes_unused(img: &[u8], n: u32, h: Header) -> bool
+    ensures { λ r. ⌜ r ≡ nodesUnused n h (words (now (img .entry))) ⌝ }
+{
+    let many = less((n as u64) + 1, h.nodes.bump as u64);
+    words::zeros(
+        img,
+        record_at(Arena::Nodes { nodes: n }, h.nodes.bump),
+        12 * (many as usize),
+    )
+}
+
+// Every value record from the bump on is zeros.
+pub fn values_unused(img: &[u8], m: u32, n: u32, h: Header) -> bool
+    ensures { λ r. ⌜ r ≡ valuesUnused m n h (words (now (img .entry))) ⌝ }
+{
+    let many = less((m as u64) + 1, h.values.bump as u64);
+    words::zeros(
+        img,
+        record_at(
+            Arena::Values {
+                nodes: n,
+                values: m,
+            },
+            h.values.bump,
+        ),
+        8 * (many as usize),
+    )
+}

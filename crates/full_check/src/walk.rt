@@ -1,0 +1,155 @@
+// The walk over the tree: from the root to the left child, then to the right one, each node tested before it is relied on. The value
+// records that leaves name are marked, so that one named twice is found.
+use keys::Key;
+use keys::bit;
+use keys::leading_equal;
+use records::Header;
+use records::Node;
+use records::NodeIndex;
+use records::read::node_in;
+use records::read::value_record;
+use records::tests::is_used;
+use records::tests::live_value;
+use records::tests::node_ok;
+ghost use mathlib.Core.Path.{_≡_};
+ghost use Prim.Native.Nat.{_+_, _≤_};
+ghost use lib.ListN.{length};
+ghost use Rattle.words.specs.Words.{words};
+ghost use Rattle.records.specs.Room.{Room};
+ghost use Rattle.full_check.specs.Walk.{sideOk, visitOk, leafWalk};
+ghost use Rattle.full_check.specs.Walked.{walked, WalksTo};
+ghost use Rattle.full_check.specs.Check.{treeOk};
+
+// What a walk answers: whether every node passed, and how many nodes are left to be reached.
+pub struct Walked {
+    pub passed: bool,
+    pub rest: u64,
+}
+
+// A child's key shares its parent's prefix and has the side's bit behind it. `low` is one more than that prefix, and 0 at the root.
+fn side_ok(low: u64, key: Key, right: bool, x: Node) -> bool
+    ensures { λ r. ⌜ r ≡ sideOk low key right x ⌝ }
+{
+    if low == 0 {
+        return true;
+    }
+    let prefix = low - 1;
+    let own = x.key;
+    (prefix <= leading_equal(key, own)) & (bit(own, prefix) == right)
+}
+
+// A visited node, with so many nodes left to be reached.
+fn visit_ok(
+    h: Header,
+    rest: u64,
+    i: NodeIndex,
+    above: NodeIndex,
+    low: u64,
+    key: Key,
+    right: bool,
+    x: Node,
+) -> bool
+    ensures { λ r. ⌜ r ≡ visitOk h rest (i .0) (above .0) low key right x ⌝ }
+{
+    node_ok(h, i, above, low, x) & side_ok(low, key, right, x) & (0 < rest)
+}
+
+// A leaf: its value record is tested and marked.
+fn leaf_walk(img: &[u8], marks: &mut [u8], n: u32, rest: u64, x: Node) -> Walked
+    requires { ⌜ 1 ≤ x .value .0 ⌝ }
+    ensures { λ r. ⌜ walked r (words (now (marks .exit))) ≡ leafWalk n (words (now (img .entry))) rest (words (now (marks .entry))) x ⌝ }
+{
+    let j = x.value;
+    let at = (j.0 - 1) as usize;
+    if live_value(value_record(img, n, j)) & (words::word(marks, at) == 0) {
+        words::set_word(marks, at, 1);
+        return Walked { passed: true, rest };
+    }
+    Walked {
+        passed: false,
+        rest: 0,
+    }
+}
+
+// Node `i`, reached from the node above, whose key is `key`, on the side `right`, and all nodes below it.
+fn walk(
+    img: &[u8],
+    marks: &mut [u8],
+    n: u32,
+    h: Header,
+    rest: u64,
+    i: NodeIndex,
+    above: NodeIndex,
+    low: u64,
+    key: Key,
+    right: bool,
+) -> Walked
+    requires { ⌜ Room h (length (words (now img))) × (low ≤ 128) ⌝ }
+    ensures { λ r. ⌜ WalksTo n h (words (now (img .entry))) rest (words (now (marks .entry))) (i .0) (above .0) low key right (walked r (words (now (marks .exit)))) ⌝ }
+{
+    if is_used(h, i) {
+        let x = node_in(img, i);
+        if visit_ok(h, rest, i, above, low, key, right, x) {
+            if x.value.0 == 0 {
+                let own = x.key;
+                let l = walk(
+                    img,
+                    marks,
+                    n,
+                    h,
+                    rest - 1,
+                    x.left,
+                    i,
+                    x.prefix + 1,
+                    own,
+                    false,
+                );
+                if l.passed {
+                    return walk(
+                        img,
+                        marks,
+                        n,
+                        h,
+                        l.rest,
+                        x.right,
+                        i,
+                        x.prefix + 1,
+                        own,
+                        true,
+                    );
+                }
+                return l;
+            }
+            return leaf_walk(img, marks, n, rest - 1, x);
+        }
+    }
+    Walked {
+        passed: false,
+        rest: 0,
+    }
+}
+
+// The tree reaches as many nodes as node size says; an empty map has none.
+pub fn tree_ok(img: &[u8], marks: &mut [u8], n: u32, h: Header) -> bool
+    requires { ⌜ Room h (length (words (now img))) ⌝ }
+    ensures { λ r. ⌜ r ≡ treeOk n h (words (now (img .entry))) (words (now (marks .entry))) ⌝ }
+{
+    if h.values.size == 0 {
+        return true;
+    }
+    let root = h.root;
+    let none = Key { high: 0, low: 0 };
+    let w = walk(
+        img,
+        marks,
+        n,
+        h,
+        h.nodes.size,
+        root,
+        NodeIndex(0),
+        0,
+        none,
+        false,
+    );
+    w.passed & (w.rest == 0)
+}

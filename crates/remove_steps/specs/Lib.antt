@@ -1,0 +1,2 @@
+-- What the contracts of `remove_steps` cite: the words that each step leaves.
+pub mod Steps
