@@ -43,7 +43,7 @@ use Rattle.accepted.specs.Frame.{holds-kept, chain-kept, chain-range}
 use Rattle.finding.specs.Answers.{valued, listed, doneFrom, target-agrees}
 
 -- what holds of every entry's record holds of one that is found
-found-all : (P : ℕ → Type 0) (key : Key) (es : List (Key × ℕ)) (v : ℕ) → All (λ e. P (e .1)) es → find key es ≡ some v → P v
+pub found-all : (P : ℕ → Type 0) (key : Key) (es : List (Key × ℕ)) (v : ℕ) → All (λ e. P (e .1)) es → find key es ≡ some v → P v
 found-all P key [] v a e = let z : _≡_ {A = ℕ} 0 1 = cc in absurd (omega arith)
 found-all P key (x ∷ es) v a e = go (same key (x .0)) e (found-all P key es v (a .1))
   where
@@ -139,6 +139,11 @@ module _ {m n : ℕ} {ws : List ℕ} (a : Accepted m n ws) (j : ℕ) (low : 1 �
 
       unused-value : (k : ℕ) → valueAt n (headerOf n ws .values .bump) ≤ k → k < valueAt n (headerOf n ws .values .bump) + 8 * (m + 1 - headerOf n ws .values .bump) → getD (setValue m n ws j v) k 0 ≡ getD ws k 0
       unused-value k l h = value-beyond n ws m j v k (omega arith)
+
+  -- its tree is the same
+  pub value-tree : value-accepted .tree ≡ a .tree
+  unfolding value-accepted
+  value-tree = refl
 
   -- the list has the new value where the entries name record j
   pub value-listed : (key : Key) (es : List (Key × ℕ)) → Numbered es → find key es ≡ some j → valued n (setValue m n ws j v) es ≡ update key v (valued n ws es)
