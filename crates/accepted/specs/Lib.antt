@@ -4,3 +4,4 @@ pub mod Accepted
 pub mod Tests
 pub mod Held
 pub mod Frame
+pub mod Apart

@@ -2,6 +2,8 @@
 //
 // A key comes as its high and its low word. An answer's number is returned, in the upper half of 64 bits where an index or a count stands in the lower half; a key and a value are written to `out` as words, the
 // low word of each 64-bit word first.
+pub mod list; // list.rt: listings
+
 use keys::Key;
 use records::Count;
 use records::Done;
@@ -11,7 +13,7 @@ use records::Place;
 use records::Value;
 use records::number;
 
-fn done(a: Done) -> u32 {
+pub fn done(a: Done) -> u32 {
     match a {
         Done::Yes => 0,
         Done::Refused(r) => number(r),
@@ -53,7 +55,7 @@ fn got(a: Got, out: &mut [u8]) -> u32 {
     }
 }
 
-fn entry(a: Entry, out: &mut [u8]) -> u32 {
+pub fn entry(a: Entry, out: &mut [u8]) -> u32 {
     match a {
         Entry::Is(k, v) => {
             words::set_wide(out, 0, k.high);

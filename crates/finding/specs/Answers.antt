@@ -71,7 +71,7 @@ find-valued n ws key (e ∷ es) = go (same key (e .0)) (find-valued n ws key es)
     go false x = x
 
 -- what holds of every entry's record holds of one that is found
-find-all : (P : ℕ → Type 0) (key : Key) (es : List (Key × ℕ)) (v : ℕ) → All (λ e. P (e .1)) es → find key es ≡ some v → P v
+pub find-all : (P : ℕ → Type 0) (key : Key) (es : List (Key × ℕ)) (v : ℕ) → All (λ e. P (e .1)) es → find key es ≡ some v → P v
 find-all P key [] v a e = let z : _≡_ {A = ℕ} 0 1 = cc in absurd (omega arith)
 find-all P key (x ∷ es) v a e = go (same key (x .0)) e (find-all P key es v (a .1))
   where

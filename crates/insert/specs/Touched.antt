@@ -19,10 +19,10 @@ use Rattle.node_allocator.specs.declared.Field.{Field}
 use Rattle.node_allocator.specs.declared.Field.the-variants as field
 use Rattle.node_allocator.specs.Layout.{headerAt, recordAt, widthOf, registerOf, inside, valuesAt}
 use Rattle.node_allocator.specs.Steps.{countsOf, setRegister, connected, addIndex, addImage}
-use Rattle.node_allocator.specs.Places.{Inside, is-inside, register-small, width-some}
-use Rattle.node_allocator.specs.Laws.{Outside, register-length}
-use Rattle.node_allocator.specs.Taken.{add-length, add-others, add-none}
-use Rattle.node_allocator.specs.Chain.{Each}
+use Rattle.arena_laws.specs.Places.{Inside, is-inside, register-small, width-some}
+use Rattle.arena_laws.specs.Laws.{Outside, register-length}
+use Rattle.arena_laws.specs.Taken.{add-length, add-others, add-none}
+use Rattle.arena_laws.specs.Chain.{Each}
 use Rattle.records.specs.declared.Value.{Value}
 use Rattle.records.specs.declared.Content.{Content}
 use Rattle.records.specs.Records.{nodeOf, contentOf}

@@ -33,7 +33,7 @@ pub struct Stepped {
     pub position: Position,
 }
 
-// Where a stack stands when its leaf has come: the places and the count as popped and opened so far, and the leaf, if no test failed.
+// Where a stack stands when its leaf has come, for the definitions: the places and the count as popped and opened so far, and the leaf, if no test failed.
 pub struct Reached {
     pub sound: bool,
     pub places: [NodeIndex; 129],
@@ -41,7 +41,15 @@ pub struct Reached {
     pub leaf: NodeIndex,
 }
 
-// What a leaf comes to: the near end, the mark, and the entry.
+// What a leaf comes to: whether the stack moves, the mark, the value record that the end gave last, and the entry.
+pub struct Given {
+    pub moves: bool,
+    pub ended: bool,
+    pub last: ValueIndex,
+    pub entry: Entry,
+}
+
+// What a step makes of the near end: its stack, the mark, and the entry.
 pub struct Moved {
     pub near: Stack,
     pub ended: bool,

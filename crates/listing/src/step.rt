@@ -2,35 +2,26 @@
 use crate::Made;
 use crate::Moved;
 use crate::Position;
-use crate::Reached;
 use crate::Stack;
 use crate::Stepped;
-use crate::open::pop_to;
-use keys::Key;
-use node_allocator::Arena;
-use node_allocator::record_at;
+use crate::open::popped;
 use records::Done;
 use records::Entry;
-use records::Header;
 use records::NodeIndex;
 use records::Opened;
 use records::Refusal;
 use records::ValueIndex;
-use records::open::is_image;
 use records::open::open_image;
-use records::read::value_record;
-use records::tests::live_value;
 ghost use mathlib.Core.Path.{_≡_};
 ghost use Prim.Native.Nat.{_+_, _-_, _*_, _≤_, _<_};
 ghost use mathlib.Core.Bool.{true, false};
 ghost use lib.ListN.{length};
-ghost use Rattle.records.specs.declared.Opened.the-variants.{Good};
 ghost use Rattle.words.specs.Words.{words};
 ghost use Rattle.records.specs.Layout.{imageOf};
-ghost use Rattle.records.specs.Records.{nodeOf};
 ghost use Rattle.records.specs.Room.{Room};
 ghost use Rattle.listing.specs.Position.{emptyStack, rootStack, bothEnds, openedMade, madeOf};
-ghost use Rattle.listing.specs.Step.{leafMoved, openedMoved, movedOf, nearEnd, farEnd, withNear, refusedStep, openedStep, stepOf};
+ghost use Rattle.listing.specs.Step.{stepOf};
+ghost use Rattle.listing.specs.Ends.{turnedAway, endStep};
 
 // ---- making a position
 
@@ -92,161 +83,92 @@ pub fn list(img: &[u8], m: u32, n: u32) -> Made
 
 // ---- a step
 
-// The value record that a node names.
-fn value_of(img: &[u8], n: u32, i: NodeIndex) -> ValueIndex
-    ensures { λ r. ⌜ r ≡ nodeOf (words (now (img .entry))) (i .0) .value ⌝ }
+// What is wrong with a position comes between the shape and the header.
+fn turned(r: Refusal, sound: bool) -> Refusal
+    ensures { λ q. ⌜ q ≡ turnedAway r sound ⌝ }
 {
-    ValueIndex(words::word(img, record_at(Arena::Nodes { nodes: n }, i.0) + 3))
-}
-
-fn key_of(img: &[u8], n: u32, i: NodeIndex) -> Key
-    ensures { λ r. ⌜ r ≡ nodeOf (words (now (img .entry))) (i .0) .key ⌝ }
-{
-    let at = record_at(Arena::Nodes { nodes: n }, i.0) + 4;
-    Key {
-        high: words::wide(img, at + 2),
-        low: words::wide(img, at),
+    if sound {
+        return r;
     }
-}
-
-// What the leaf comes to: the ends meet, or its value record is tested and its entry given.
-fn leaf_moved(img: &[u8], n: u32, s: Stack, other: ValueIndex, reached: Reached) -> Moved
-    ensures { λ r. ⌜ r ≡ leafMoved n (words (now (img .entry))) s other reached ⌝ }
-{
-    let places = reached.places;
-    let count = reached.count;
-    let leaf = reached.leaf;
-    let j = value_of(img, n, leaf);
-    if j.0 == other.0 {
-        let last = s.last;
-        return Moved {
-            near: Stack {
-                places,
-                count,
-                last,
-            },
-            ended: true,
-            entry: Entry::Refused(Refusal::Absent),
-        };
-    }
-    let record = value_record(img, n, j);
-    if live_value(record) {
-        let v = record.value;
-        return Moved {
-            near: Stack {
-                places,
-                count,
-                last: j,
-            },
-            ended: false,
-            entry: Entry::Is(key_of(img, n, leaf), v),
-        };
-    }
-    Moved {
-        near: s,
-        ended: false,
-        entry: Entry::Refused(Refusal::Damaged),
+    match r {
+        Refusal::Shape => Refusal::Shape,
+        Refusal::Damaged => Refusal::Cursor,
+        Refusal::Full => Refusal::Cursor,
+        Refusal::Absent => Refusal::Cursor,
+        Refusal::NotBlank => Refusal::Cursor,
+        Refusal::Cursor => Refusal::Cursor,
     }
 }
 
-fn moved(
+// A step at one end, whose stack is `s`; the other end has so many places, and gave `other` last.
+fn step(
     img: &[u8],
+    m: u32,
     n: u32,
-    h: Header,
     back: bool,
     ended: bool,
     s: Stack,
+    held: u32,
     other: ValueIndex,
 ) -> Moved
-    requires { ⌜ Room h (length (words (now img))) ⌝ }
-    requires { ⌜ s .count ≤ 129 ⌝ }
-    ensures { λ r. ⌜ r ≡ movedOf back n h (words (now (img .entry))) ended s other ⌝ }
+    ensures { λ r. ⌜ r ≡ endStep back m n (imageOf (now (img .entry))) ended s held other ⌝ }
 {
-    if ended | (s.count == 0) {
-        return Moved {
-            near: s,
-            ended,
-            entry: Entry::Refused(Refusal::Absent),
-        };
-    }
-    let reached = pop_to(img, h, back, s);
-    if reached.sound {
-        return leaf_moved(img, n, s, other, reached);
+    let sound = (s.count <= 129) & (held <= 129);
+    let mut r = Refusal::Cursor;
+    match open_image(img, m, n) {
+        Opened::Good(h) => {
+            if sound {
+                if (!ended) & (s.count != 0) {
+                    return popped(img, n, h, back, s, other);
+                }
+                r = Refusal::Absent;
+            }
+        }
+        Opened::Shut(q) => {
+            r = turned(q, sound);
+        }
     }
     Moved {
         near: s,
-        ended: false,
-        entry: Entry::Refused(Refusal::Damaged),
-    }
-}
-
-fn step_opened(img: &[u8], n: u32, h: Header, back: bool, p: Position) -> Stepped
-    requires { ⌜ Room h (length (words (now img))) ⌝ }
-    requires { ⌜ (p .front .count ≤ 129) × (p .back .count ≤ 129) ⌝ }
-    ensures { λ r. ⌜ r ≡ openedStep back n (words (now (img .entry))) p (Good h) ⌝ }
-{
-    let front = p.front;
-    let rear = p.back;
-    if back {
-        let m = moved(img, n, h, true, p.ended, rear, front.last);
-        let near = m.near;
-        let entry = m.entry;
-        return Stepped {
-            entry,
-            position: Position {
-                front,
-                back: near,
-                ended: m.ended,
-            },
-        };
-    }
-    let m = moved(img, n, h, false, p.ended, front, rear.last);
-    let near = m.near;
-    let entry = m.entry;
-    Stepped {
-        entry,
-        position: Position {
-            front: near,
-            back: rear,
-            ended: m.ended,
-        },
-    }
-}
-
-fn refused(p: Position, r: Refusal) -> Stepped
-    ensures { λ s. ⌜ s ≡ refusedStep p r ⌝ }
-{
-    Stepped {
+        ended,
         entry: Entry::Refused(r),
-        position: p,
     }
-}
-
-fn step(img: &[u8], m: u32, n: u32, back: bool, p: Position) -> Stepped
-    ensures { λ r. ⌜ r ≡ stepOf back m n (imageOf (now (img .entry))) p ⌝ }
-{
-    if is_image(img, m, n) {
-        if (p.front.count <= 129) & (p.back.count <= 129) {
-            return match open_image(img, m, n) {
-                Opened::Good(h) => step_opened(img, n, h, back, p),
-                Opened::Shut(r) => refused(p, r),
-            };
-        }
-        return refused(p, Refusal::Cursor);
-    }
-    refused(p, Refusal::Shape)
 }
 
 // The next entry from the front: the Rust's `next`.
 pub fn next(img: &[u8], m: u32, n: u32, p: Position) -> Stepped
     ensures { λ r. ⌜ r ≡ stepOf false m n (imageOf (now (img .entry))) p ⌝ }
 {
-    step(img, m, n, false, p)
+    let front = p.front;
+    let rear = p.back;
+    let r = step(img, m, n, false, p.ended, front, rear.count, rear.last);
+    let near = r.near;
+    let entry = r.entry;
+    Stepped {
+        entry,
+        position: Position {
+            front: near,
+            back: rear,
+            ended: r.ended,
+        },
+    }
 }
 
 // The next entry from the back: the Rust's `next_back`.
 pub fn next_back(img: &[u8], m: u32, n: u32, p: Position) -> Stepped
     ensures { λ r. ⌜ r ≡ stepOf true m n (imageOf (now (img .entry))) p ⌝ }
 {
-    step(img, m, n, true, p)
+    let front = p.front;
+    let rear = p.back;
+    let r = step(img, m, n, true, p.ended, rear, front.count, front.last);
+    let near = r.near;
+    let entry = r.entry;
+    Stepped {
+        entry,
+        position: Position {
+            front,
+            back: near,
+            ended: r.ended,
+        },
+    }
 }

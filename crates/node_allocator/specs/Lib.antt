@@ -1,7 +1,3 @@
--- What the contracts of `node_allocator` cite, and the laws of its steps.
+-- What the contracts of `node_allocator` cite; the laws of its steps are `arena_laws`.
 pub mod Layout
 pub mod Steps
-pub mod Places
-pub mod Laws
-pub mod Taken
-pub mod Chain

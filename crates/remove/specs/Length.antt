@@ -12,8 +12,8 @@ use Rattle.node_allocator.specs.declared.Arena.the-variants.{Nodes}
 use Rattle.node_allocator.specs.declared.Field.the-variants as field
 use Rattle.node_allocator.specs.Layout.{recordAt, inside}
 use Rattle.node_allocator.specs.Steps.{getRegister, clearRegister, connected, disconnected}
-use Rattle.node_allocator.specs.Laws.{register-length}
-use Rattle.node_allocator.specs.Taken.{remove-length}
+use Rattle.arena_laws.specs.Laws.{register-length}
+use Rattle.arena_laws.specs.Taken.{remove-length}
 use Rattle.records.specs.declared.Content.{Content}
 use Rattle.records.specs.Records.{nodeOf}
 use Rattle.records.specs.Opening.{openOf}

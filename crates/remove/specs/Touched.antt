@@ -17,9 +17,9 @@ use Rattle.node_allocator.specs.declared.Field.{Field}
 use Rattle.node_allocator.specs.declared.Field.the-variants as field
 use Rattle.node_allocator.specs.Layout.{nodeAt, valueAt, valuesAt, headerAt, recordAt, registerOf, inside}
 use Rattle.node_allocator.specs.Steps.{getRegister, setRegister, clearRegister, connected, disconnected, removeImage}
-use Rattle.node_allocator.specs.Places.{register-small}
-use Rattle.node_allocator.specs.Laws.{Outside, register-others}
-use Rattle.node_allocator.specs.Taken.{remove-others}
+use Rattle.arena_laws.specs.Places.{register-small}
+use Rattle.arena_laws.specs.Laws.{Outside, register-others}
+use Rattle.arena_laws.specs.Taken.{remove-others}
 use Rattle.records.specs.declared.Content.{Content}
 use Rattle.records.specs.Records.{nodeOf, contentOf}
 use Rattle.records.specs.Writes.{contentAt, setContent}

@@ -20,8 +20,8 @@ use Rattle.trees.specs.Map.{Map, listOf, lookupIn, OrderedMap}
 use Rattle.views.specs.Small.{FitsValue}
 use Rattle.accepted.specs.Rules.{Holds}
 use Rattle.accepted.specs.Accepted.{Accepted, HoldsMap, valueAtRecord}
-use Rattle.finding.specs.Answers.{valued, listed, doneFrom, targetFrom, target-agrees}
-use Rattle.setting.specs.Write.{found-all, update, value-accepted, value-tree, value-listed}
+use Rattle.finding.specs.Answers.{valued, listed, find-all, doneFrom, targetFrom, target-agrees}
+use Rattle.setting.specs.Write.{update, value-accepted, value-tree, value-listed}
 
 -- ---- the list's value write where the key is not held
 
@@ -87,7 +87,7 @@ module _ {m n : ℕ} {ws : List ℕ} (a : Accepted m n ws) where
             rw (target-agrees a key, q) (rw (gone .0) refl, (a, sym (gone .1 v)))
         go (some e) q =
             let hit : find key (listOf (a .tree)) ≡ some (e .1) = sym (found key (a .tree) (a .ordered)) ∙ ap valueOf q in
-            let inside = found-all (λ j. (1 ≤ j) × (j < headerOf n ws .values .bump)) key (listOf (a .tree)) (e .1) (map-range (a .tree) (a .holds)) hit in
+            let inside = find-all (λ j. (1 ≤ j) × (j < headerOf n ws .values .bump)) key (listOf (a .tree)) (e .1) (map-range (a .tree) (a .holds)) hit in
             let here = held-valued n ws key (listOf (a .tree)) ∙ held-some key (listOf (a .tree)) (e .1) hit in
             rw (target-agrees a key, q)
             (rw here refl, (value-accepted a (e .1) (inside .0) (inside .1) v fits, ap (λ (t : Map). valued n (setValue m n ws (e .1) v) (listOf t)) (value-tree a (e .1) (inside .0) (inside .1) v fits) ∙ value-listed a (e .1) (inside .0) (inside .1) v fits key (listOf (a .tree)) (a .different) hit))

@@ -16,7 +16,7 @@ use Rattle.keys.specs.declared.Key.{Key}
 use Rattle.node_allocator.specs.declared.Arena.the-variants.{Nodes, Values}
 use Rattle.node_allocator.specs.Layout.{nodeAt, valueAt, capacityOf}
 use Rattle.node_allocator.specs.Steps.{countsOf}
-use Rattle.node_allocator.specs.Places.{Inside}
+use Rattle.arena_laws.specs.Places.{Inside}
 use Rattle.records.specs.declared.Header.{Header}
 use Rattle.records.specs.declared.Node.{Node}
 use Rattle.records.specs.declared.Value.{Value}
@@ -40,16 +40,7 @@ use Rattle.accepted.specs.Rules.{HeaderRules, Holds, Live, FreeValue}
 use Rattle.accepted.specs.Accepted.{Accepted, HoldsMap, valueAtRecord}
 use Rattle.accepted.specs.Held.{in-range}
 use Rattle.accepted.specs.Frame.{holds-kept, chain-kept, chain-range}
-use Rattle.finding.specs.Answers.{valued, listed, doneFrom, target-agrees}
-
--- what holds of every entry's record holds of one that is found
-pub found-all : (P : ℕ → Type 0) (key : Key) (es : List (Key × ℕ)) (v : ℕ) → All (λ e. P (e .1)) es → find key es ≡ some v → P v
-found-all P key [] v a e = let z : _≡_ {A = ℕ} 0 1 = cc in absurd (omega arith)
-found-all P key (x ∷ es) v a e = go (same key (x .0)) e (found-all P key es v (a .1))
-  where
-    go : (b : Bool) → cond b (some (x .1)) (find key es) ≡ some v → (find key es ≡ some v → P v) → P v
-    go true q f = let same-value : x .1 ≡ v = cc in rw (sym same-value) (a .0)
-    go false q f = f q
+use Rattle.finding.specs.Answers.{valued, listed, find-all, doneFrom, target-agrees}
 
 -- ---- the list's value write
 
@@ -166,6 +157,6 @@ module _ {m n : ℕ} {ws : List ℕ} (a : Accepted m n ws) (j : ℕ) (low : 1 �
           let rest : valued n (setValue m n ws j v) es ≡ valued n ws es = others es (u .nonzero .1) (all-map (λ y d w. d (here ∙ w)) es (u .different .0)) in
           λ ι. (x .0, there ι) ∷ rest ι
       go false q f =
-          let off : x .1 ≢ j = found-all (λ w. x .1 ≢ w) key es j (u .different .0) q in
+          let off : x .1 ≢ j = find-all (λ w. x .1 ≢ w) key es j (u .different .0) q in
           let here : valueRecordOf n (setValue m n ws j v) (x .1) ≡ valueRecordOf n ws (x .1) = record-kept (x .1) (pos-of-ne-zero (u .nonzero .0)) off in
           λ ι. (x .0, here ι .value) ∷ f q ι

@@ -14,9 +14,9 @@ use Rattle.node_allocator.specs.declared.Arena.the-variants.{Nodes, Values}
 use Rattle.node_allocator.specs.declared.Field.{Field}
 use Rattle.node_allocator.specs.Layout.{nodeAt, valueAt, headerAt, recordAt, capacityOf, registerOf, inside}
 use Rattle.node_allocator.specs.Steps.{countsOf, setRegister, addImage, removeImage}
-use Rattle.node_allocator.specs.Places.{Inside, is-inside, register-small}
-use Rattle.node_allocator.specs.Laws.{Outside, register-others, register-length}
-use Rattle.node_allocator.specs.Taken.{add-others, remove-others, add-length, remove-length}
+use Rattle.arena_laws.specs.Places.{Inside, is-inside, register-small}
+use Rattle.arena_laws.specs.Laws.{Outside, register-others, register-length}
+use Rattle.arena_laws.specs.Taken.{add-others, remove-others, add-length, remove-length}
 use Rattle.records.specs.declared.Header.{Header}
 use Rattle.records.specs.declared.Content.{Content}
 use Rattle.records.specs.declared.Value.{Value}

@@ -15,9 +15,9 @@ use Rattle.node_allocator.specs.declared.Arena.{Arena}
 use Rattle.node_allocator.specs.declared.Field.the-variants as field
 use Rattle.node_allocator.specs.Layout.{headerAt, recordAt, registerOf, inside}
 use Rattle.node_allocator.specs.Steps.{countsOf, setSize, setHead, getRegister, setRegister, clearRegister, freshTaken, freedTaken, unlinked, addImage, removeImage}
-use Rattle.node_allocator.specs.Places.{Inside, inside-is, Lies, past-header}
-use Rattle.node_allocator.specs.Laws.{register-word, register-stored, register-length}
-use Rattle.node_allocator.specs.Taken.{remove-left}
+use Rattle.arena_laws.specs.Places.{Inside, inside-is, Lies, past-header}
+use Rattle.arena_laws.specs.Laws.{register-word, register-stored, register-length}
+use Rattle.arena_laws.specs.Taken.{remove-left}
 
 module _ (a : Arena) (ws : List ℕ) (lies : Lies a (length ws)) (named : Inside a (countsOf a ws .head)) where
   beyond : headerAt a + 4 ≤ recordAt a (countsOf a ws .head) + 0

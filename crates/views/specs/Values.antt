@@ -16,9 +16,9 @@ use Rattle.node_allocator.specs.declared.Arena.the-variants.{Nodes, Values}
 use Rattle.node_allocator.specs.declared.Field.{Field}
 use Rattle.node_allocator.specs.Layout.{nodeAt, valueAt, headerAt, recordAt, capacityOf, registerOf, inside}
 use Rattle.node_allocator.specs.Steps.{countsOf, setRegister, addImage, removeImage}
-use Rattle.node_allocator.specs.Places.{Inside, inside-is, is-inside, Lies, register-small}
-use Rattle.node_allocator.specs.Laws.{Outside, register-others}
-use Rattle.node_allocator.specs.Taken.{add-others, remove-others}
+use Rattle.arena_laws.specs.Places.{Inside, inside-is, is-inside, Lies, register-small}
+use Rattle.arena_laws.specs.Laws.{Outside, register-others}
+use Rattle.arena_laws.specs.Taken.{add-others, remove-others}
 use Rattle.records.specs.declared.ValueRecord.{ValueRecord}
 use Rattle.records.specs.declared.Content.{Content}
 use Rattle.records.specs.declared.Value.{Value}

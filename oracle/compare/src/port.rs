@@ -1,7 +1,7 @@
 //! The port's calls, on an image's words in place, with the answers that the original's calls give.
 
 use oracle::history::{Answer, Call, Refusal};
-use oracle::image::{Key, Value};
+use oracle::image::{Entry, Key, Value};
 
 extern "C" {
     fn bridge_start(img: *mut u8, len: usize, m: u32, n: u32) -> u32;
@@ -15,8 +15,18 @@ extern "C" {
     fn bridge_max(img: *const u8, len: usize, m: u32, n: u32, out: *mut u8, out_len: usize) -> u32;
     fn bridge_insert(img: *mut u8, len: usize, m: u32, n: u32, high: u64, low: u64, first: u64, second: u64) -> u64;
     fn bridge_remove(img: *mut u8, len: usize, m: u32, n: u32, high: u64, low: u64, out: *mut u8, out_len: usize) -> u32;
+    fn bridge_list(img: *const u8, len: usize, m: u32, n: u32, pos: *mut u8, pos_len: usize) -> u32;
+    fn bridge_step(img: *const u8, len: usize, m: u32, n: u32, back: u32, pos: *mut u8, pos_len: usize, out: *mut u8, out_len: usize) -> u32;
+    fn bridge_list_all(img: *const u8, len: usize, m: u32, n: u32, out: *mut u8, out_len: usize) -> u64;
     fn bridge_check(img: *const u8, len: usize, m: u32, n: u32, scratch: *mut u8, scratch_len: usize) -> u32;
 }
+
+/// A listing's position as words: two stacks, each of 129 places, a count and the value record given last; then the mark.
+pub const POSITION: usize = 2 * STACK + 1;
+pub const STACK: usize = 131;
+
+#[derive(Clone, PartialEq, Eq, Debug)]
+pub struct Position(pub [u32; POSITION]);
 
 /// An image's words with its M and N.
 pub struct Port<'a> {
@@ -54,6 +64,10 @@ fn split(joined: u64, answer: impl FnOnce(u32) -> Answer) -> Answer {
         0 => answer(joined as u32),
         number => refused(number),
     }
+}
+
+fn entry(out: [u64; 4]) -> Answer {
+    Answer::Entry(((out[0] as Key) << 64 | out[1] as Key, [out[2], out[3]]))
 }
 
 impl Port<'_> {
@@ -103,11 +117,37 @@ impl Port<'_> {
         let call = if largest { bridge_max } else { bridge_min };
         let number = unsafe { call(self.shared(), self.len(), self.m, self.n, out.as_mut_ptr().cast(), 32) };
         if number == 0 {
-            let key = (out[0] as Key) << 64 | out[1] as Key;
-            Answer::Entry((key, [out[2], out[3]]))
+            entry(out)
         } else {
             refused(number)
         }
+    }
+
+    /// A position before the first entry and behind the last.
+    pub fn list(&self) -> (Answer, Position) {
+        let mut position = Position([0; POSITION]);
+        let number = unsafe { bridge_list(self.shared(), self.len(), self.m, self.n, position.0.as_mut_ptr().cast(), 4 * POSITION) };
+        (done(number), position)
+    }
+
+    /// A step at the front, or at the back.
+    pub fn step(&self, position: &mut Position, back: bool) -> Answer {
+        let mut out = [0u64; 4];
+        let number = unsafe {
+            bridge_step(self.shared(), self.len(), self.m, self.n, back.into(), position.0.as_mut_ptr().cast(), 4 * POSITION, out.as_mut_ptr().cast(), 32)
+        };
+        if number == 0 {
+            entry(out)
+        } else {
+            refused(number)
+        }
+    }
+
+    /// A whole listing from the front: how many entries, and the exclusive or of their keys and values.
+    pub fn list_all(&self) -> (u64, Entry) {
+        let mut out = [0u64; 4];
+        let count = unsafe { bridge_list_all(self.shared(), self.len(), self.m, self.n, out.as_mut_ptr().cast(), 32) };
+        (count, ((out[0] as Key) << 64 | out[1] as Key, [out[2], out[3]]))
     }
 
     /// The full check's number, with the scratch that it is lent.

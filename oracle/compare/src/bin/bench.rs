@@ -2,13 +2,14 @@
 //!
 //!     bench ROUNDS
 //!
-//! 4,096 random keys, M 4,096, N 8,192. Lookup: 8,192 lookups of which half are present; insert: all keys into an empty map; remove: all keys, in another order. Each round gives one ratio, the port's time
+//! 4,096 random keys, M 4,096, N 8,192. Lookup: 8,192 lookups of which half are present; insert: all keys into an empty map; remove: all keys, in another order; a whole listing from the front, through the original's
+//! iterator. Each round gives one ratio, the port's time
 //! by the original's; the median is printed. The check is a ratio to one plain read of the image's words.
 
 use compare::port::Port;
 use oracle::generate::Random;
 use oracle::history::Answer;
-use oracle::image::{Image, Key, Value};
+use oracle::image::{Entry, Image, Key, Value};
 use std::hint::black_box;
 use std::time::Instant;
 
@@ -40,8 +41,8 @@ fn shuffled<T>(random: &mut Random, mut things: Vec<T>) -> Vec<T> {
 fn main() {
     let rounds = std::env::args().nth(1).and_then(|text| text.parse().ok()).unwrap_or(101);
     let mut random = Random::new(2026);
-    let (mut lookup, mut insert, mut remove, mut check) = (vec![], vec![], vec![], vec![]);
-    let (mut lookup_ns, mut insert_ns, mut remove_ns) = (vec![], vec![], vec![]);
+    let (mut lookup, mut insert, mut remove, mut listing, mut check) = (vec![], vec![], vec![], vec![], vec![]);
+    let (mut lookup_ns, mut insert_ns, mut remove_ns, mut listing_ns) = (vec![], vec![], vec![], vec![]);
     for _ in 0..rounds {
         let entries = keys(&mut random);
         let mut original = Image::blank(M, N).expect("built in");
@@ -90,6 +91,21 @@ fn main() {
         black_box(sum);
         check.push(check_time / read_time);
 
+        let mut listed = (0, (0, [0; 2]));
+        let port_time = seconds(|| listed = port.list_all());
+        let mut sum: (u64, Entry) = (0, (0, [0; 2]));
+        let time = seconds(|| {
+            for (key, value) in original.map().listing() {
+                sum.0 += 1;
+                sum.1 .0 ^= key;
+                sum.1 .1[0] ^= value[0];
+                sum.1 .1[1] ^= value[1];
+            }
+        });
+        assert_eq!(listed, sum);
+        listing.push(port_time / time);
+        listing_ns.push(time * 1e9 / sum.0 as f64);
+
         let order = shuffled(&mut random, entries);
         let time = seconds(|| {
             let map = original.map();
@@ -110,6 +126,7 @@ fn main() {
     println!("lookup: {:.2} times the original ({:.0} ns a call there)", median(lookup), median(lookup_ns));
     println!("insert: {:.2} times the original ({:.0} ns a call there)", median(insert), median(insert_ns));
     println!("remove: {:.2} times the original ({:.0} ns a call there)", median(remove), median(remove_ns));
+    println!("whole listing: {:.2} times the original ({:.0} ns an entry there)", median(listing), median(listing_ns));
     println!("full check: {:.1} times one plain read of the image's words", median(check));
     println!("medians of {rounds} rounds");
 }

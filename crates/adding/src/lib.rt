@@ -1,0 +1,1 @@
+// No code: insert on an accepted image. Everything is in specs/.

@@ -1,0 +1,94 @@
+-- The chain of freed records, from the head through register 0 of each to the bump: document 01, "each chain from head ends at bump". Adding a record takes the chain's
+-- first, or the one at the bump where the chain is empty, and removing a record puts it in front.
+use mathlib.Core.Path.{_≡_, refl, sym, ap, _∙_}
+use mathlib.Core.List.{List, [], _∷_}
+use mathlib.Core.Logic.{_≢_, inr}
+use Prim.Native.Nat.{ℕ, _+_, _%_, _^_, _≤_, _<_}
+use native.Mathlib.Omega.{arith}
+use lib.ListN.{length, getD}
+use Rattle.node_allocator.specs.declared.Arena.{Arena}
+use Rattle.node_allocator.specs.declared.Field.the-variants.{Left}
+use Rattle.node_allocator.specs.Layout.{headerAt, recordAt, registerOf}
+use Rattle.node_allocator.specs.Steps.{countsOf, setSize, setHead, getRegister, setRegister, addIndex, addImage, removeImage}
+use Rattle.arena_laws.specs.Places.{Inside, inside-is, Lies, past-header, header-within, apart, width-some}
+use Rattle.arena_laws.specs.Laws.{Outside, register-word, register-stored, register-length, counts-register}
+use Rattle.arena_laws.specs.Taken.{add-head, add-freed, add-fresh, add-others, remove-counts, remove-others, remove-left}
+
+-- from i the chain goes through these records, each named by the one before it, and ends at `end`
+unfoldable pub Chain : Arena → List ℕ → ℕ → ℕ → List ℕ → Type 0
+Chain a ws end i [] = i ≡ end
+Chain a ws end i (j ∷ js) =
+    record { here : i ≡ j; named : Inside a j; inner : j ≢ end; rest : Chain a ws end (getRegister a ws j Left) js }
+
+-- P of each index of a list
+abbrev pub Each : (ℕ → Type 0) → List ℕ → Type 0
+Each P [] = Unit {0}
+Each P (j ∷ js) = P j × Each P js
+
+-- i is none of them
+abbrev pub Without : ℕ → List ℕ → Type 0
+Without i js = Each (λ j. j ≢ i) js
+
+-- ---- what a chain goes by is register 0 of its records
+
+pub chain-agree : (a : Arena) (ws vs : List ℕ) (end i : ℕ) (js : List ℕ)
+    → Each (λ j. getRegister a vs j Left ≡ getRegister a ws j Left) js → Chain a ws end i js → Chain a vs end i js
+unfolding Chain
+chain-agree a ws vs end i [] f c = c
+chain-agree a ws vs end i (j ∷ js) f c =
+    record { here = c .here; named = c .named; inner = c .inner; rest = rw (f .0) (chain-agree a ws vs end (getRegister a ws j Left) js (f .1) (c .rest)) }
+
+-- a step that touches the header and register 0 of one record keeps every other link
+module _ (a : Arena) (ws vs : List ℕ) (i : ℕ) (low : 1 ≤ i)
+    (same : (k : ℕ) → Outside a k → k ≢ recordAt a i → getD vs k 0 ≡ getD ws k 0) where
+  link-kept : (j : ℕ) → Inside a j → j ≢ i → getRegister a vs j Left ≡ getRegister a ws j Left
+  link-kept j h n =
+      let off : recordAt a j + 0 ≢ recordAt a i + 0 = apart a j i 0 0 (h .low) low n (omega (arith, width-some a)) (omega (arith, width-some a)) in
+      register-word vs Left h
+      ∙ same (recordAt a j + 0) (inr (omega (arith, past-header a j (h .low)))) (λ e. off (omega arith))
+      ∙ sym (register-word ws Left h)
+
+  pub chain-kept : (end k : ℕ) (js : List ℕ) → Without i js → Chain a ws end k js → Chain a vs end k js
+  unfolding Chain
+  chain-kept end k [] n c = c
+  chain-kept end k (j ∷ js) n c =
+      record {
+        here = c .here;
+        named = c .named;
+        inner = c .inner;
+        rest = rw (link-kept j (c .named) (n .0)) (chain-kept end (getRegister a ws j Left) js (n .1) (c .rest));
+      }
+
+-- ---- adding and removing
+
+module _ (a : Arena) (ws : List ℕ) (lies : Lies a (length ws)) where
+  -- the chain loses its first, which is the record that is added
+  pub chain-add : (j : ℕ) (js : List ℕ) → Without j js → Chain a ws (countsOf a ws .bump) (countsOf a ws .head) (j ∷ js)
+      → (addIndex a ws ≡ j) × Chain a (addImage a ws) (countsOf a (addImage a ws) .bump) (countsOf a (addImage a ws) .head) js
+  unfolding Chain
+  chain-add j js n c =
+      let h : countsOf a ws .head ≡ j = c .here in
+      let named : Inside a (countsOf a ws .head) = rw h (c .named) in
+      let counts = add-freed a ws lies named (λ e. c .inner (sym h ∙ e)) in
+      let same : (k : ℕ) → Outside a k → k ≢ recordAt a j → getD (addImage a ws) k 0 ≡ getD ws k 0 =
+      λ k o d. add-others a ws k o (λ e. d (e ∙ ap (recordAt a) h)) in
+      let kept : Chain a (addImage a ws) (countsOf a ws .bump) (getRegister a ws j Left) js =
+      chain-kept a ws (addImage a ws) j (c .named .low) same (countsOf a ws .bump) (getRegister a ws j Left) js n (c .rest) in
+      (add-head a ws lies named ∙ h, rw (counts, h) kept)
+
+  -- an empty chain: the record at the bump is added, and the chain is empty again
+  pub chain-fresh : Inside a (countsOf a ws .head) → countsOf a ws .head + 1 < 2 ^ 32 → Chain a ws (countsOf a ws .bump) (countsOf a ws .head) []
+      → (addIndex a ws ≡ countsOf a ws .bump) × Chain a (addImage a ws) (countsOf a (addImage a ws) .bump) (countsOf a (addImage a ws) .head) []
+  unfolding Chain
+  chain-fresh named small c = (add-head a ws lies named ∙ c, rw (add-fresh a ws lies named c small) refl)
+
+  -- a removed record stands in front
+  pub chain-remove : (i : ℕ) (js : List ℕ) → Inside a i → i ≢ countsOf a ws .bump → Without i js
+      → Chain a ws (countsOf a ws .bump) (countsOf a ws .head) js
+      → Chain a (removeImage a ws i) (countsOf a (removeImage a ws i) .bump) (countsOf a (removeImage a ws i) .head) (i ∷ js)
+  unfolding Chain
+  chain-remove i js named d n c =
+      let kept : Chain a (removeImage a ws i) (countsOf a ws .bump) (countsOf a ws .head) js =
+      chain-kept a ws (removeImage a ws i) i (named .low) (remove-others a ws i) (countsOf a ws .bump) (countsOf a ws .head) js n c in
+      let counts = remove-counts a ws i lies named in
+      rw counts (record { here = refl; named = named; inner = d; rest = rw (remove-left a ws i lies named) kept })

@@ -1,0 +1,1 @@
+// No code: the full check accepts exactly the accepted images. Everything is in specs/.

@@ -1,0 +1,1 @@
+// No code: a listing on an accepted image. Everything is in specs/.

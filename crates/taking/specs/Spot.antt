@@ -1,0 +1,210 @@
+-- Where a remove takes place: the key's leaf hangs below a node of the tree, and its sibling beside it. The tests before any write pass there, and the plan is to cut.
+use mathlib.Core.Path.{_≡_, refl, sym, ap, subst, _∙_}
+use mathlib.Core.List.{List}
+use mathlib.Core.Logic.{_≢_, inl, inr}
+use mathlib.Core.Bool.{Bool, true, false, cond}
+use mathlib.Core.Option.{Option, none, some}
+use Prim.Native.Nat.{ℕ, _+_, _≤_, _<_}
+use native.Mathlib.Omega.{arith}
+use borrow.Author.Tests.{ne-eqb, lt-ltb}
+use Rattle.keys.specs.declared.Key.{Key}
+use Rattle.records.specs.declared.Header.{Header}
+use Rattle.records.specs.declared.Node.{Node}
+use Rattle.records.specs.Records.{nodeOf}
+use Rattle.remove_steps.specs.Steps.{siblingOf}
+use Rattle.remove.specs.declared.Plan.the-variants.{Cut}
+use Rattle.remove.specs.Plan.{siblingOk, leafPlan}
+use Rattle.trees.specs.Keys.{bit, same, unequal}
+use Rattle.trees.specs.Tree.{Tree, leaf, inner, fork, top, relabel}
+use Rattle.trees.specs.Nodes.{In}
+use Rattle.trees.specs.Lookup.{reach}
+use Rattle.trees.specs.Remove.{hit, close, remove}
+use Rattle.trees.specs.Changes.{spot, in-spot, top-remove}
+use Rattle.accepted.specs.Rules.{Holds, leafNode, innerNode}
+use Rattle.accepted.specs.Held.{node-passes, kids-pass, once}
+use Rattle.accepted.specs.Frame.{holds-kept}
+
+-- an inner node's record over its sides
+abbrev pub forkNode : ℕ → Key → ℕ → Bool → ℕ → ℕ → Node
+forkNode parent key p true near far = innerNode parent key p far near
+forkNode parent key p false near far = innerNode parent key p near far
+
+-- what an image that holds a fork holds, over its sides
+pub record Fork (h : Header) (ws : List ℕ) (parent low i : ℕ) (key : Key) (p : ℕ) (side : Bool) (near far : Tree) : Type 0 where
+  pub index-some : 1 ≤ i
+  pub index-used : i < h .nodes .bump
+  pub here : nodeOf ws i ≡ forkNode parent key p side (top near) (top far)
+  pub rises : low ≤ p
+  pub short : p < 128
+  pub two : top near ≢ top far
+  pub on-near : Holds h ws i (p + 1) near
+  pub on-far : Holds h ws i (p + 1) far
+
+pub fork-held : (h : Header) (ws : List ℕ) (parent low i : ℕ) (key : Key) (p : ℕ) (side : Bool) (near far : Tree)
+    → Holds h ws parent low (fork i key p side near far) → Fork h ws parent low i key p side near far
+unfolding Holds
+fork-held h ws parent low i key p true near far k =
+    record { index-some = k .index-some; index-used = k .index-used; here = k .here; rises = k .rises; short = k .short; two = λ e. k .two (sym e); on-near = k .on-right; on-far = k .on-left }
+fork-held h ws parent low i key p false near far k =
+    record { index-some = k .index-some; index-used = k .index-used; here = k .here; rises = k .rises; short = k .short; two = k .two; on-near = k .on-left; on-far = k .on-right }
+
+pub held-fork : (h : Header) (ws : List ℕ) (parent low i : ℕ) (key : Key) (p : ℕ) (side : Bool) (near far : Tree)
+    → Fork h ws parent low i key p side near far → Holds h ws parent low (fork i key p side near far)
+unfolding Holds
+held-fork h ws parent low i key p true near far k =
+    record { index-some = k .index-some; index-used = k .index-used; here = k .here; rises = k .rises; short = k .short; two = λ e. k .two (sym e); on-left = k .on-far; on-right = k .on-near }
+held-fork h ws parent low i key p false near far k =
+    record { index-some = k .index-some; index-used = k .index-used; here = k .here; rises = k .rises; short = k .short; two = k .two; on-left = k .on-near; on-right = k .on-far }
+
+module _ (i : ℕ) (key : Key) (p : ℕ) where
+  in-node : (side : Bool) (near far : Tree) → In i (fork i key p side near far)
+  in-node true near far = inl refl
+  in-node false near far = inl refl
+
+  pub in-near : (side : Bool) (near far : Tree) (y : ℕ) → In y near → In y (fork i key p side near far)
+  in-near true near far y q = inr (inr q)
+  in-near false near far y q = inr (inl q)
+
+  in-far : (side : Bool) (near far : Tree) (y : ℕ) → In y far → In y (fork i key p side near far)
+  in-far true near far y q = inr (inl q)
+  in-far false near far y q = inr (inr q)
+
+  -- no node stands twice
+  pub fork-once : (h : Header) (ws : List ℕ) (parent low : ℕ) (side : Bool) (near far : Tree) → Holds h ws parent low (fork i key p side near far)
+      → (In i near → ⊥) × (In i far → ⊥) × ((y : ℕ) → In y near → In y far → ⊥)
+  fork-once h ws parent low true near far k = let o = once h ws parent low (inner i key p far near) k in (o .1, o .0, λ y q z. o .2 y z q)
+  fork-once h ws parent low false near far k = let o = once h ws parent low (inner i key p near far) k in (o .0, o .1, o .2)
+
+-- the subtree t is the parent of the leaf i of the key, which names value record j
+pub record Spot (h : Header) (ws : List ℕ) (key : Key) (i j : ℕ) (t : Tree) : Type 0 where
+  pub parent : ℕ
+  pub low : ℕ
+  pub p : ℕ
+  pub label : Key
+  pub prefix : ℕ
+  pub side : Bool
+  pub own : Key
+  pub far : Tree
+  pub is : t ≡ fork p label prefix side (leaf i own j) far
+  pub whole : Holds h ws parent low (fork p label prefix side (leaf i own j) far)
+  pub held : Fork h ws parent low p label prefix side (leaf i own j) far
+  pub turns : bit key prefix ≡ side
+  pub ours : same key own ≡ true
+
+-- On the way from t down to the spot u only nodes above it are passed: where no other node changes and the sibling holds the parent's place, the image holds the tree t′ without the key.
+pub record Way (h : Header) (ws : List ℕ) (key : Key) (i j parent low : ℕ) (t u t′ : Tree) : Type 0 where
+  pub at : Spot h ws key i j u
+  pub rebuilt : (g : Header) (vs : List ℕ) → h .nodes .bump ≤ g .nodes .bump → h .values .bump ≤ g .values .bump
+      → ((y : ℕ) → In y t → (In y u → ⊥) → nodeOf vs y ≡ nodeOf ws y)
+      → Holds g vs (at .parent) (at .low) (relabel (at .p) (at .far)) → Holds g vs parent low t′
+
+abbrev inside : Option (ℕ × ℕ) → ℕ × ℕ
+inside none = (0, 0)
+inside (some e) = e
+
+pub hit-leaf : (key : Key) (t : Tree) (i j : ℕ) → hit key t ≡ true → reach key t ≡ some (i, j) → (own : Key) × (t ≡ leaf i own j) × (same key own ≡ true)
+hit-leaf key (inner x a q l r) i j g e = absurd (unequal false g refl)
+hit-leaf key (leaf x a v) i j g e =
+    let found : _≡_ {A = Option (ℕ × ℕ)} (some (x, v)) (some (i, j)) = rw g at e in
+    let index : x ≡ i = ap (λ (o : Option (ℕ × ℕ)). inside o .0) found in
+    let value : v ≡ j = ap (λ (o : Option (ℕ × ℕ)). inside o .1) found in
+    (a, (λ ι. leaf (index ι) a (value ι)), g)
+
+module _ (h : Header) (ws : List ℕ) (key : Key) (i j : ℕ) where
+  at-fork : (parent low x : ℕ) (a : Key) (q : ℕ) (side : Bool) (near far : Tree) → Holds h ws parent low (fork x a q side near far) → bit key q ≡ side
+      → hit key near ≡ true → reach key near ≡ some (i, j) → Way h ws key i j parent low (fork x a q side near far) (fork x a q side near far) (relabel x far)
+  at-fork parent low x a q side near far k e g f =
+      let z = hit-leaf key near i j g f in
+      let here : fork x a q side near far ≡ fork x a q side (leaf i (z .0) j) far = ap (λ (t : Tree). fork x a q side t far) (z .1) in
+      let whole : Holds h ws parent low (fork x a q side (leaf i (z .0) j) far) = subst (λ (t : Tree). Holds h ws parent low t) here k in
+      record {
+        at = record {
+          parent = parent;
+          low = low;
+          p = x;
+          label = a;
+          prefix = q;
+          side = side;
+          own = z .0;
+          far = far;
+          is = here;
+          whole = whole;
+          held = fork-held h ws parent low x a q side (leaf i (z .0) j) far whole;
+          turns = e;
+          ours = z .2;
+        };
+        rebuilt = λ g vs b c kept holds. holds;
+      }
+
+  through-fork : (parent low x : ℕ) (a : Key) (q : ℕ) (side : Bool) (near far u near′ : Tree) → Holds h ws parent low (fork x a q side near far) → top near′ ≡ top near
+      → ((y : ℕ) → In y u → In y near) → Way h ws key i j x (q + 1) near u near′ → Way h ws key i j parent low (fork x a q side near far) u (fork x a q side near′ far)
+  through-fork parent low x a q side near far u near′ k e within way =
+      let f = fork-held h ws parent low x a q side near far k in
+      let o = fork-once x a q h ws parent low side near far k in
+      record {
+        at = way .at;
+        rebuilt = λ g vs b c kept holds. held-fork g vs parent low x a q side near′ far (record {
+          index-some = f .index-some;
+          index-used = omega (arith, f .index-used);
+          here = kept x (in-node x a q side near far) (λ z. o .0 (within x z)) ∙ f .here ∙ ap (λ (y : ℕ). forkNode parent a q side y (top far)) (sym e);
+          rises = f .rises;
+          short = f .short;
+          two = λ z. f .two (sym e ∙ z);
+          on-near = way .rebuilt g vs b c (λ y z d. kept y (in-near x a q side near far y z) d) holds;
+          on-far = holds-kept h g ws vs b c x (q + 1) far (λ y z. kept y (in-far x a q side near far y z) (λ d. o .2 y (within y d) z)) (f .on-far);
+        });
+      }
+
+  -- a key that is reached, and is not the lone leaf's, has its leaf below a node
+  pub below : (parent low : ℕ) (t : Tree) → Holds h ws parent low t → hit key t ≡ false → reach key t ≡ some (i, j) → Way h ws key i j parent low t (spot key t) (remove key t)
+  unfolding Holds
+  below parent low (leaf x a v) k g e = let z : _≡_ {A = Option (ℕ × ℕ)} none (some (i, j)) = rw g at e in let y : _≡_ {A = ℕ} 0 1 = cc in absurd (omega arith)
+  below parent low (inner x a q l r) k g e =
+      go (bit key q) (hit key l) (hit key r) refl refl refl e (below x (q + 1) l (k .on-left)) (below x (q + 1) r (k .on-right))
+    where
+      go : (b u w : Bool) → bit key q ≡ b → hit key l ≡ u → hit key r ≡ w → cond b (reach key r) (reach key l) ≡ some (i, j)
+          → (hit key l ≡ false → reach key l ≡ some (i, j) → Way h ws key i j x (q + 1) l (spot key l) (remove key l))
+          → (hit key r ≡ false → reach key r ≡ some (i, j) → Way h ws key i j x (q + 1) r (spot key r) (remove key r))
+          → Way h ws key i j parent low (inner x a q l r) (cond b (cond w (inner x a q l r) (spot key r)) (cond u (inner x a q l r) (spot key l)))
+          (cond b (close x a q true w (remove key r) l) (close x a q false u (remove key l) r))
+      go true u true b f g e left right = at-fork parent low x a q true r l k b g e
+      go true u false b f g e left right = through-fork parent low x a q true r l (spot key r) (remove key r) k (top-remove key r) (in-spot key r) (right g e)
+      go false true w b f g e left right = at-fork parent low x a q false l r k b f e
+      go false false w b f g e left right = through-fork parent low x a q false l r (spot key l) (remove key l) k (top-remove key l) (in-spot key l) (left f e)
+
+  -- ---- the tests before any write
+
+  module _ (t : Tree) (s : Spot h ws key i j t) where
+    pub leaf-here : nodeOf ws i ≡ leafNode (s .p) (s .own) j
+    unfolding Holds
+    leaf-here = s .held .on-near .here
+
+    pub sibling-is : siblingOf key (nodeOf ws (s .p)) .0 ≡ top (s .far)
+    unfolding siblingOf
+    sibling-is = rw (s .held .here) (go (s .side) (s .turns))
+      where
+        go : (b : Bool) → bit key (s .prefix) ≡ b → siblingOf key (forkNode (s .parent) (s .label) (s .prefix) b i (top (s .far))) .0 ≡ top (s .far)
+        go true e = rw e
+        go false e = rw e
+
+    prefix-is : nodeOf ws (s .p) .prefix ≡ s .prefix
+    prefix-is = rw (s .held .here) (go (s .side))
+      where
+        go : (b : Bool) → forkNode (s .parent) (s .label) (s .prefix) b i (top (s .far)) .prefix ≡ s .prefix
+        go true = refl
+        go false = refl
+
+    sibling-passes : siblingOk h ws key (s .p) ≡ true
+    unfolding siblingOk
+    sibling-passes =
+        rw (
+          sibling-is,
+          prefix-is,
+          lt-ltb (s .prefix) 128 (s .held .short),
+          node-passes h ws (s .p) (s .prefix + 1) (s .far) (s .held .on-far) (λ z. absurd (omega (arith, s .held .index-some))),
+        )
+        (kids-pass h ws (s .p) (s .prefix + 1) (s .far) (s .held .on-far))
+
+    pub cut-planned : leafPlan h ws key (record { 0 = i }) ≡ Cut (record { 0 = i })
+    unfolding leafPlan
+    cut-planned = rw (leaf-here, ne-eqb (s .p) 0 (λ z. omega (arith, s .held .index-some)), sibling-passes)

@@ -1,0 +1,1 @@
+// No code: remove on an accepted image. Everything is in specs/.
