@@ -3,3 +3,4 @@ pub mod Position
 pub mod Step
 pub mod Ends
 pub mod Laws
+pub mod Promises

@@ -9,7 +9,8 @@ pub fn damage(random: &mut Random, words: &mut [u32], m: u32, n: u32) {
     }
 }
 
-fn change(random: &mut Random, words: &mut [u32], m: usize, n: usize) {
+/// One random change.
+pub fn change(random: &mut Random, words: &mut [u32], m: usize, n: usize) {
     let node = |random: &mut Random| 8 + 12 * random.below(n);
     let value = |random: &mut Random| 12 + 12 * n + 8 * random.below(m);
     let header = [0, 1, 2, 3, 4, 5, 6, 7, 12 * n + 8, 12 * n + 9, 12 * n + 10, 12 * n + 11];

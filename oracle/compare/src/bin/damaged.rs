@@ -5,9 +5,10 @@
 //! with COUNT damaged images for each pair M, N up to 256, 512; all calls are made on each.
 
 use compare::damage::damage;
+use compare::grow::grow;
 use compare::port::Port;
 use oracle::apply::{apply, guarded};
-use oracle::generate::{Generator, Random, KINDS};
+use oracle::generate::Random;
 use oracle::history::{Answer, Call, ABSENT};
 use oracle::image::{Image, Key, SIZES};
 use std::process::ExitCode;
@@ -57,24 +58,6 @@ fn run(seed: u64, count: usize, m: u32, n: u32) -> Tally {
         }
     }
     tally
-}
-
-/// A good image of a random history, and the keys that it used.
-fn grow(random: &mut Random, good: &mut Image, m: u32, n: u32) -> Vec<Key> {
-    *good = Image::blank(m, n).expect("one of the pairs");
-    let (_, kind) = KINDS[random.below(KINDS.len())];
-    let length = 1 + random.below(6 * m as usize + 4);
-    let mut keys = Vec::new();
-    for call in Generator::new(random.word(), m, kind).take(length) {
-        if let Call::Insert(key, _) = &call {
-            keys.push(*key);
-        }
-        if !matches!(call, Call::All | Call::Steps(_)) {
-            guarded(good, &call);
-        }
-    }
-    keys.push(random.key());
-    keys
 }
 
 fn calls(random: &mut Random, keys: &[Key]) -> Vec<Call> {
