@@ -1,0 +1,2 @@
+-- Document 01's starred bench examples.
+pub mod Table
