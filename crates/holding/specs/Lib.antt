@@ -1,0 +1,3 @@
+-- What the crate's contracts say.
+pub mod Held
+pub mod Laws
