@@ -5,8 +5,9 @@
 //! - every interleaving of the two ends on COUNT small maps of up to six keys;
 //! - COUNT random interleavings on large maps;
 //! - B and all 128 powers of two, whose longest path is 129 nodes, from both ends;
-//! - COUNT positions that outlived inserts and removes: as long as the port does not refuse, the original's iterator gives the same.
+//! - COUNT positions that outlived inserts and removes, and COUNT damaged images: as long as the port does not refuse, the original's iterator gives the same.
 
+use compare::damage::damage;
 use compare::grow::grow;
 use compare::port::{Port, Position};
 use oracle::generate::Random;
@@ -30,6 +31,8 @@ fn main() -> ExitCode {
     println!("listings: {} listings of B and all powers of two", deepest(&mut random, count));
     let (steps, refused) = outlived(&mut random, count);
     println!("listings: {count} positions that outlived a change, {steps} steps alike, {refused} positions refused");
+    let (steps, refused) = damaged(&mut random, count);
+    println!("listings: {count} damaged images, {steps} steps alike, {refused} listings refused");
     println!("listings: no difference");
     ExitCode::SUCCESS
 }
@@ -180,4 +183,46 @@ fn outlive(random: &mut Random, image: &mut Image, m: u32, n: u32, keys: &[Key])
         assert_eq!(answer, original_step(&mut listing, back), "M {m} N {n}: step {step} after a change");
     }
     (3 * m as usize + 8, false)
+}
+
+// ---- damaged images
+
+fn damaged(random: &mut Random, count: usize) -> (usize, usize) {
+    let (mut steps, mut refused) = (0, 0);
+    let (mut m, mut n) = (4, 8);
+    let mut good = Image::blank(m, n).expect("one of the pairs");
+    for k in 0..count {
+        if k % 20 == 0 {
+            (m, n) = random.pick(&[(4, 8), (8, 16), (7, 20), (256, 512)]);
+            grow(random, &mut good, m, n);
+        }
+        let mut words = good.words().to_vec();
+        damage(random, &mut words, m, n);
+        let mut image = Image::blank(m, n).expect("one of the pairs");
+        image.load(&words);
+        let (passed, broke) = walked(random, &mut image, &mut words, m, n);
+        steps += passed;
+        refused += usize::from(broke);
+    }
+    (steps, refused)
+}
+
+/// How many steps gave the same, and whether the port refused in the end.
+fn walked(random: &mut Random, image: &mut Image, words: &mut [u32], m: u32, n: u32) -> (usize, bool) {
+    let port = Port { words, m, n };
+    let (made, mut position) = port.list();
+    if made != Answer::Done {
+        return (0, true);
+    }
+    let mut listing = image.map().listing();
+    let length = 2 * m as usize + 4;
+    for step in 0..length {
+        let back = random.below(3) == 0;
+        let answer = port.step(&mut position, back);
+        if matches!(answer, Answer::Refused(_)) && answer != ABSENT {
+            return (step, true);
+        }
+        assert_eq!(answer, original_step(&mut listing, back), "M {m} N {n}: step {step} on a damaged image");
+    }
+    (length, false)
 }
