@@ -1,7 +1,8 @@
--- A tree that an image holds: every node of it passes its test, no node stands at two places, and the words determine it.
+-- A tree that an image holds: every node of it passes its test, no node stands at two places, the words determine it, and its entries name used value records.
 use mathlib.Core.Path.{_≡_, refl, sym, ap, subst, subst₂, _∙_}
 use mathlib.Core.List.{List}
 use mathlib.Core.Logic.{_≢_, _⊎_, inl, inr}
+use mathlib.Core.Option.{Option, none, some}
 use mathlib.Core.Bool.{Bool, true, false, cond, _&&_, _||_, not, Bool·beq}
 use Prim.Native.Nat.{ℕ, suc, _+_, _-_, _*_, _≤_, _<_}
 use native.Mathlib.Omega.{arith}
@@ -13,10 +14,12 @@ use Rattle.records.specs.declared.Header.{Header}
 use Rattle.records.specs.declared.Node.{Node}
 use Rattle.records.specs.Records.{nodeOf}
 use Rattle.records.specs.Tests.{usedNode, leafForm, innerForm, formOk, nodeOk, kidsOk}
-use Rattle.trees.specs.Tree.{Tree, leaf, inner, top}
+use Rattle.trees.specs.Lists.{All, all-append}
+use Rattle.trees.specs.Tree.{Tree, leaf, inner, top, entries}
+use Rattle.trees.specs.Map.{Map, listOf}
 use Rattle.trees.specs.Nodes.{In, in-top}
 use Rattle.accepted.specs.Rules.{HeaderRules, Holds, leafNode, innerNode}
-use Rattle.accepted.specs.Accepted.{nodesIn}
+use Rattle.accepted.specs.Accepted.{nodesIn, HoldsMap}
 
 -- ---- each node passes its test
 
@@ -25,7 +28,8 @@ abbrev pub RootRule : Header → Tree → Type 0
 RootRule h (leaf i key v) = h .values .size ≡ 1
 RootRule h (inner i key p l r) = h .values .size ≢ 1
 
-some-nodes : (t : Tree) → 1 ≤ nodesIn t
+-- a tree has a node
+pub some-nodes : (t : Tree) → 1 ≤ nodesIn t
 unfolding nodesIn
 some-nodes (leaf i key v) = omega arith
 some-nodes (inner i key p l r) = omega arith
@@ -213,3 +217,17 @@ module _ (h : Header) (ws : List ℕ) where
       let left : l ≡ x = unique i (p + 1) l x (ap (λ (z : Node). z .left .0) same) (k .on-left) (subst₂ (λ (b c : ℕ). Holds h ws b (c + 1) x) (sym e) (sym long) (g .on-left)) in
       let right : r ≡ y = unique i (p + 1) r y (ap (λ (z : Node). z .right .0) same) (k .on-right) (subst₂ (λ (b c : ℕ). Holds h ws b (c + 1) y) (sym e) (sym long) (g .on-right)) in
       λ ι. inner (e ι) (ap (λ (z : Node). z .key) same ι) (long ι) (left ι) (right ι)
+
+  -- ---- the entries
+
+  -- each names a value record in 1..bump-1
+  pub entries-used : (parent low : ℕ) (t : Tree) → Holds h ws parent low t → All (λ e. (1 ≤ e .1) × (e .1 < h .values .bump)) (entries t)
+  unfolding Holds
+  entries-used parent low (leaf i key v) k = ((k .value-some, k .value-used), tt)
+  entries-used parent low (inner i key p l r) k =
+      all-append _ (entries l) (entries r) (entries-used i (p + 1) l (k .on-left)) (entries-used i (p + 1) r (k .on-right))
+
+  pub list-used : (t : Map) → HoldsMap h ws t → All (λ e. (1 ≤ e .1) × (e .1 < h .values .bump)) (listOf t)
+  unfolding HoldsMap
+  list-used none k = tt
+  list-used (some t) k = entries-used 0 0 t (k .held)

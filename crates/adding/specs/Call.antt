@@ -32,12 +32,12 @@ use Rattle.trees.specs.Values.{Numbered}
 use Rattle.trees.specs.Changes.{target}
 use Rattle.views.specs.Small.{FitsValue}
 use Rattle.accepted.specs.Rules.{Holds, Live}
+use Rattle.accepted.specs.Held.{entries-used}
 use Rattle.accepted.specs.Accepted.{Accepted, HoldsMap}
 use Rattle.finding.specs.Answers.{valued, listed, find-all, placeFrom, addr-agrees}
 use Rattle.setting.specs.Write.{update, value-accepted, value-tree, value-listed}
 use Rattle.adding.specs.Planned.{arenas, sized, plan-full, plan-first, plan-replace, plan-split}
 use Rattle.adding.specs.Entered.{enter, enter-held, enter-either, valued-rising, valued-found}
-use Rattle.adding.specs.Grown.{entries-used}
 use Rattle.adding.specs.First.{first-agrees}
 use Rattle.adding.specs.Splitting.{split-agrees}
 
@@ -74,7 +74,7 @@ module _ {m n : ℕ} {ws : List ℕ} (a : Accepted m n ws) (key : Key) (fits : F
     tree-held = holds-tree .held
 
     inside : (1 ≤ e .1) × (e .1 < headerOf n ws .values .bump)
-    inside = find-all (λ j. (1 ≤ j) × (j < headerOf n ws .values .bump)) key (entries t) (e .1) (entries-used (arenas a) 0 0 t tree-held) at-record
+    inside = find-all (λ j. (1 ≤ j) × (j < headerOf n ws .values .bump)) key (entries t) (e .1) (entries-used (headerOf n ws) ws 0 0 t tree-held) at-record
 
     replaced : Accepted m n (setValue m n ws (e .1) v)
     replaced = value-accepted a (e .1) (inside .0) (inside .1) v fits-value

@@ -92,12 +92,6 @@ module _ (n : ℕ) (ws : List ℕ) where
 
 -- ---- the values of the entries after an insert
 
-pub all-put : (P : Key × ℕ → Type 0) (key : Key) (j : ℕ) (es : List (Key × ℕ)) → P (key, j) → All P es → All P (put key j es)
-all-put P key j [] p h = (p, tt)
-all-put P key j (e ∷ es) p h =
-    chosen (All P) (same key (e .0)) (e ∷ es) (cond (ltb (numberOf key) (numberOf (e .0))) ((key, j) ∷ e ∷ es) (e ∷ put key j es)) h
-    (chosen (All P) (ltb (numberOf key) (numberOf (e .0))) ((key, j) ∷ e ∷ es) (e ∷ put key j es) (p, h) (h .0, all-put P key j es p (h .1)))
-
 -- the new key's record j holds v, and every other record what it held
 module _ (n : ℕ) (ws vs : List ℕ) (key : Key) (v : Value) (j : ℕ) (stored : valueRecordOf n vs j .value ≡ v) (kept : (y : ℕ) → 1 ≤ y → y ≢ j → valueRecordOf n vs y ≡ valueRecordOf n ws y) where
   pub valued-kept : (es : List (Key × ℕ)) → All (λ e. e .1 ≢ 0) es → All (λ e. j ≢ e .1) es → valued n vs es ≡ valued n ws es

@@ -15,7 +15,7 @@ use Rattle.trees.specs.Nodes.{In, Child, in-top}
 use Rattle.trees.specs.Values.{Numbered}
 use Rattle.accepted.specs.Rules.{HeaderRules, Holds, Live, FreeNode}
 use Rattle.accepted.specs.Accepted.{Accepted, HoldsMap}
-use Rattle.accepted.specs.Held.{Once, once}
+use Rattle.accepted.specs.Held.{Once, once, entries-used}
 use Rattle.accepted.specs.Frame.{chain-range}
 use Rattle.accepted.specs.Apart.{live-not-free}
 use Rattle.adding.specs.Arenas.{Used, used-other, FreeNodeOf, nextNodeOf, FreeValueOf, nextValueOf, Arenas}
@@ -61,12 +61,6 @@ module _ {m n : ℕ} {ws xs ys : List ℕ} (b : Arenas m n ws xs ys) where
   pub not-next : (y : ℕ) → Used (headerOf n ws .nodes .bump) xs y → y ≢ headerOf n ws .nodes .head
   not-next y u = used-other n (headerOf n ws .nodes) (FreeNodeOf n ws) (nextNodeOf ws) xs (b .nodes) y u
 
-  -- an entry's value record is in 1..bump-1
-  pub entries-used : (parent low : ℕ) (t : Tree) → Holds (headerOf n ws) ws parent low t → All (λ e. (1 ≤ e .1) × (e .1 < headerOf n ws .values .bump)) (entries t)
-  unfolding Holds
-  entries-used parent low (leaf i key v) k = ((k .value-some, k .value-used), tt)
-  entries-used parent low (inner i key p l r) k = all-append _ (entries l) (entries r) (entries-used i (p + 1) l (k .on-left)) (entries-used i (p + 1) r (k .on-right))
-
   -- nor is it the next one to take
   pub entries-other : (es : List (Key × ℕ)) → All (λ e. (1 ≤ e .1) × (e .1 < headerOf n ws .values .bump)) es → All (λ e. Live (valueRecordOf n ws (e .1))) es
       → All (λ e. headerOf n ws .values .head ≢ e .1) es
@@ -82,7 +76,7 @@ module _ {m n : ℕ} {ws xs ys : List ℕ} (b : Arenas m n ws xs ys) where
           }
 
   pub tree-other : (parent low : ℕ) (t : Tree) → Holds (headerOf n ws) ws parent low t → All (λ e. Live (valueRecordOf n ws (e .1))) (entries t) → All (λ e. headerOf n ws .values .head ≢ e .1) (entries t)
-  tree-other parent low t k l = entries-other (entries t) (entries-used parent low t k) l
+  tree-other parent low t k l = entries-other (entries t) (entries-used (headerOf n ws) ws parent low t k) l
 
 -- ---- a node of the tree and its children
 

@@ -29,6 +29,7 @@ use Rattle.accepted.specs.Accepted.{Accepted, HoldsMap, valueAtRecord}
 use Rattle.accepted.specs.Tests.{opened, live-passes}
 use Rattle.accepted.specs.Held.{kids-pass}
 use Rattle.finding.specs.Descents.{stopFrom}
+use Rattle.finding.specs.Answers as finding
 use Rattle.finding.specs.Answers.{listed, find-all, nodes-entries, find-tree}
 use Rattle.adding.specs.Arenas.{FreeNodeOf, nextNodeOf, FreeValueOf, nextValueOf, Arenas, arenas-of, head-inside}
 use Rattle.adding.specs.Taken.{head-taken, next-taken, value-taken}
@@ -51,13 +52,8 @@ module _ {m n : ℕ} {ws : List ℕ} (a : Accepted m n ws) where
 
   -- ---- the size is the list's length
 
-  sized-map : (t : Map) → HoldsMap h ws t → h .values .size ≡ length (listOf t)
-  unfolding HoldsMap
-  sized-map none k = k
-  sized-map (some t) k = omega (arith, nodes-entries t, k .counted, a .header .node-size)
-
   pub sized : h .values .size ≡ length (listed a)
-  sized = sized-map (a .tree) (a .holds) ∙ sym (length-map {B = Key × Value} (listOf (a .tree)) (λ e. (e .0, valueAtRecord n ws (e .1))))
+  sized = finding.sized a (a .tree) (a .holds) ∙ sym (length-map {B = Key × Value} (listOf (a .tree)) (λ e. (e .0, valueAtRecord n ws (e .1))))
 
   -- ---- room for the records
 
@@ -92,7 +88,7 @@ module _ {m n : ℕ} {ws : List ℕ} (a : Accepted m n ws) where
 
     module _ (t : Tree) (k : HoldsMap h ws (some t)) (o : OrderedMap (some t)) (room : h .values .size < m) where
       some-size : h .values .size ≢ 0
-      some-size z = omega (arith, sized-map (some t) k, entries-some t)
+      some-size z = omega (arith, finding.sized a (some t) k, entries-some t)
 
       descended : openedPlan m n ws key (openOf m n ws) ≡ stopPlan m n h ws (stopFrom (lookup key t) (top (target key t)))
       unfolding planOf

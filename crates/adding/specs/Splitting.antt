@@ -26,7 +26,7 @@ use Rattle.trees.specs.Nodes.{In, Child, in-top}
 use Rattle.trees.specs.Lookup.{lookup, find, valueOf, lookup-find}
 use Rattle.trees.specs.Insert.{insert, put, ordered-insert, entries-insert, lookup-insert}
 use Rattle.trees.specs.Map.{Map, listOf, lookupIn, OrderedMap}
-use Rattle.trees.specs.Values.{Numbered, numbered-put}
+use Rattle.trees.specs.Values.{Numbered, numbered-put, all-put}
 use Rattle.trees.specs.Changes.{target, in-target, top-insert}
 use Rattle.views.specs.Nodes.{withField}
 use Rattle.views.specs.Small.{FitsValue}
@@ -40,7 +40,7 @@ use Rattle.adding.specs.Leaf.{LeafAdded, leaf-add, top-then}
 use Rattle.adding.specs.Forked.{Forked, node-fork}
 use Rattle.adding.specs.Holding.{in-used, SplitAt, holds-insert}
 use Rattle.adding.specs.Planned.{target-held, arenas, node-room}
-use Rattle.adding.specs.Entered.{enter, enter-new, valued-missed, all-put, valued-put, nodes-insert}
+use Rattle.adding.specs.Entered.{enter, enter-new, valued-missed, valued-put, nodes-insert}
 use Rattle.adding.specs.Grown.{assembled, assembled-tree, free-nodes, not-next, tree-other, Kids, kids-of}
 
 module _ {m n : ℕ} {ws : List ℕ} (a : Accepted m n ws) (key : Key) (fits : Fits key) (v : Value) (fits-value : FitsValue v) (t : Tree) (is : a .tree ≡ some t) (miss : lookup key t ≡ none)

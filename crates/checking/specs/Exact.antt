@@ -35,10 +35,10 @@ use Rattle.views.specs.Small.{Small}
 use Rattle.accepted.specs.Rules.{HeaderRules, Holds}
 use Rattle.accepted.specs.Accepted.{Accepted, HoldsMap, nodesIn}
 use Rattle.accepted.specs.Tests.{shape-passes, header-rules, header-passes}
-use Rattle.accepted.specs.Held.{root-rule}
+use Rattle.accepted.specs.Held.{root-rule, some-nodes}
 use Rattle.checking.specs.Marks.{Fresh, Placed, fresh-different, different-fresh}
 use Rattle.checking.specs.Chains.{node-chain-found, node-chain-passes, value-chain-found, value-chain-passes}
-use Rattle.checking.specs.Passes.{ends, LiveAll, nodes-some, walk-passes}
+use Rattle.checking.specs.Passes.{ends, LiveAll, walk-passes}
 use Rattle.checking.specs.Reached.{Reached, walk-reaches}
 
 -- ---- the tree
@@ -112,7 +112,7 @@ module _ (m n : ℕ) (h : Header) (ws : List ℕ) (rules : HeaderRules m n h) wh
           (λ p z. absurd (omega arith)) fresh l
 
       many : h .values .size ≢ 0
-      many z = omega (arith, k .counted, rules .node-size, nodes-some t)
+      many z = omega (arith, k .counted, rules .node-size, some-nodes t)
 
       go : (w : Walk) → w ≡ ends (h .nodes .size) (unmarked m) (nodesIn t) (entries t) → cond (eqb (h .values .size) 0) true (w .passed && eqb (w .rest) 0) ≡ true
       go w e = rw (ne-eqb (h .values .size) 0 many, e) (eq-eqb (h .nodes .size - nodesIn t) 0 (omega (arith, k .counted)))

@@ -29,11 +29,6 @@ ends rest marks many es = record { passed = true; rest = rest - many; marks = ma
 abbrev pub LiveAll : ℕ → List ℕ → List Entry → Type 0
 LiveAll n ws es = All (λ e. Live (valueRecordOf n ws (e .1))) es
 
-pub nodes-some : (t : Tree) → 1 ≤ nodesIn t
-unfolding nodesIn
-nodes-some (leaf i key v) = omega arith
-nodes-some (inner i key p l r) = omega arith
-
 -- the top's prefix length is at least `low`
 pub top-rises : (h : Header) (ws : List ℕ) (parent low : ℕ) (t : Tree) → Holds h ws parent low t → low ≤ prefixOf t
 unfolding Holds

@@ -18,10 +18,9 @@ use Rattle.trees.specs.Map.{Map, listOf}
 use Rattle.trees.specs.Values.{Entry, Unlike, Numbered}
 use Rattle.accepted.specs.Rules.{Live, FreeNode, FreeValue, Chain}
 use Rattle.accepted.specs.Accepted.{Accepted, HoldsMap, nodesIn}
-use Rattle.accepted.specs.Held.{Once, once, in-range}
+use Rattle.accepted.specs.Held.{Once, once, in-range, some-nodes}
 use Rattle.accepted.specs.Apart.{chain-once, node-not-free, live-not-free}
 use Rattle.accepted.specs.Frame.{chain-range}
-use Rattle.checking.specs.Passes.{nodes-some}
 use Rattle.checking.specs.Exact.{holds-placed}
 use Rattle.checking.specs.Pigeons.{Has, Apart, Within, has-all, has-left, has-right, OneOfThree, three-alike, three-places}
 
@@ -176,7 +175,7 @@ module _ {m n : ℕ} {ws : List ℕ} (a : Accepted m n ws) where
         within =
             named-all (λ j. (1 ≤ j) × (j ≤ headerOf n ws .values .bump - 1)) (entries t)
             (holds-placed (headerOf n ws) ws (headerOf n ws .values .bump - 1) 0 0 t (omega arith) (k .held));
-        many = omega (arith, named-length (entries t), entries-count t, k .counted, a .header .node-size, nodes-some t);
+        many = omega (arith, named-length (entries t), entries-count t, k .counted, a .header .node-size, some-nodes t);
       }
 
   value-taken : (j : ℕ) → Has j (namedBy (listOf (a .tree))) → FreeValue (headerOf n ws) j (valueRecordOf n ws j) → ⊥

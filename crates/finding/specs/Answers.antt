@@ -61,7 +61,8 @@ valued n ws es = map (λ e. (e .0, valueAtRecord n ws (e .1))) es
 abbrev pub listed : {m n : ℕ} {ws : List ℕ} → Accepted m n ws → List (Key × Value)
 listed {m} {n} {ws} a = valued n ws (listOf (a .tree))
 
-find-valued : (n : ℕ) (ws : List ℕ) (key : Key) (es : List (Key × ℕ)) → find key (valued n ws es) ≡ Option·map (valueAtRecord n ws) (find key es)
+-- the value of a key's record
+pub find-valued : (n : ℕ) (ws : List ℕ) (key : Key) (es : List (Key × ℕ)) → find key (valued n ws es) ≡ Option·map (valueAtRecord n ws) (find key es)
 find-valued n ws key [] = refl
 find-valued n ws key (e ∷ es) = go (same key (e .0)) (find-valued n ws key es)
   where
@@ -119,7 +120,8 @@ module _ {m n : ℕ} {ws : List ℕ} (a : Accepted m n ws) where
   abbrev header : Header
   header = headerOf n ws
 
-  size-some : (t : Tree) → HoldsMap (headerOf n ws) ws (some t) → headerOf n ws .values .size ≢ 0
+  -- a map with a tree is not empty
+  pub size-some : (t : Tree) → HoldsMap (headerOf n ws) ws (some t) → headerOf n ws .values .size ≢ 0
   unfolding HoldsMap nodesIn
   size-some t k z = go t (k .counted)
     where
@@ -267,7 +269,8 @@ module _ {m n : ℕ} {ws : List ℕ} (a : Accepted m n ws) where
 
   -- ---- length and capacity
 
-  sized : (t : Map) → HoldsMap (headerOf n ws) ws t → headerOf n ws .values .size ≡ length (listOf t)
+  -- n is the list's length
+  pub sized : (t : Map) → HoldsMap (headerOf n ws) ws t → headerOf n ws .values .size ≡ length (listOf t)
   unfolding HoldsMap
   sized none k = k
   sized (some t) k = omega (arith, nodes-entries t, k .counted, a .header .node-size)

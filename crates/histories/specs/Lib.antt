@@ -12,3 +12,4 @@ pub mod Sharp
 pub mod ShutOut
 pub mod Listings
 pub mod Demands
+pub mod Lent

@@ -8,16 +8,11 @@ use Rattle.records.specs.Records.{headerOf}
 use Rattle.trees.specs.Tree.{Tree, leaf, inner}
 use Rattle.trees.specs.Map.{Map, listOf}
 use Rattle.accepted.specs.Accepted.{Accepted, HoldsMap, nodesIn}
-use Rattle.accepted.specs.Held.{unique}
+use Rattle.accepted.specs.Held.{some-nodes, unique}
 use Rattle.finding.specs.Answers.{valued, listed}
 use Rattle.histories.specs.Calls.{Entries, State, blank, holding}
 use Rattle.histories.specs.Blank.{never-blank}
 use Rattle.histories.specs.Agrees.{Is}
-
-some-nodes : (t : Tree) → 1 ≤ nodesIn t
-unfolding nodesIn
-some-nodes (leaf i key v) = omega arith
-some-nodes (inner i key p l r) = omega arith
 
 module _ {m n : ℕ} {ws : List ℕ} (a b : Accepted m n ws) where
   maps-equal : (t u : Map) → HoldsMap (headerOf n ws) ws t → HoldsMap (headerOf n ws) ws u → t ≡ u

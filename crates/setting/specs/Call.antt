@@ -19,6 +19,7 @@ use Rattle.trees.specs.Lookup.{find, held, valueOf, lookup, lookup-find}
 use Rattle.trees.specs.Map.{Map, listOf, lookupIn, OrderedMap}
 use Rattle.views.specs.Small.{FitsValue}
 use Rattle.accepted.specs.Rules.{Holds}
+use Rattle.accepted.specs.Held.{list-used}
 use Rattle.accepted.specs.Accepted.{Accepted, HoldsMap, valueAtRecord}
 use Rattle.finding.specs.Answers.{valued, listed, find-all, doneFrom, targetFrom, target-agrees}
 use Rattle.setting.specs.Write.{update, value-accepted, value-tree, value-listed}
@@ -57,17 +58,6 @@ missed n ws key (y ∷ es) e = go (same key (y .0)) e (missed n ws key es)
     go false q f = f q
 
 module _ {m n : ℕ} {ws : List ℕ} (a : Accepted m n ws) where
-  -- every entry names a value record in 1..bump-1
-  range : (parent low : ℕ) (t : Tree) → Holds (headerOf n ws) ws parent low t → All (λ e. (1 ≤ e .1) × (e .1 < headerOf n ws .values .bump)) (entries t)
-  unfolding Holds
-  range parent low (leaf i key v) k = ((k .value-some, k .value-used), tt)
-  range parent low (inner i key p l r) k = all-append _ (entries l) (entries r) (range i (p + 1) l (k .on-left)) (range i (p + 1) r (k .on-right))
-
-  map-range : (t : Map) → HoldsMap (headerOf n ws) ws t → All (λ e. (1 ≤ e .1) × (e .1 < headerOf n ws .values .bump)) (listOf t)
-  unfolding HoldsMap
-  map-range none k = tt
-  map-range (some t) k = range 0 0 t (k .held)
-
   found : (key : Key) (t : Map) → OrderedMap t → valueOf (lookupIn key t) ≡ find key (listOf t)
   found key none o = refl
   found key (some t) o = lookup-find key t o
@@ -87,7 +77,7 @@ module _ {m n : ℕ} {ws : List ℕ} (a : Accepted m n ws) where
             rw (target-agrees a key, q) (rw (gone .0) refl, (a, sym (gone .1 v)))
         go (some e) q =
             let hit : find key (listOf (a .tree)) ≡ some (e .1) = sym (found key (a .tree) (a .ordered)) ∙ ap valueOf q in
-            let inside = find-all (λ j. (1 ≤ j) × (j < headerOf n ws .values .bump)) key (listOf (a .tree)) (e .1) (map-range (a .tree) (a .holds)) hit in
+            let inside = find-all (λ j. (1 ≤ j) × (j < headerOf n ws .values .bump)) key (listOf (a .tree)) (e .1) (list-used (headerOf n ws) ws (a .tree) (a .holds)) hit in
             let here = held-valued n ws key (listOf (a .tree)) ∙ held-some key (listOf (a .tree)) (e .1) hit in
             rw (target-agrees a key, q)
             (rw here refl, (value-accepted a (e .1) (inside .0) (inside .1) v fits, ap (λ (t : Map). valued n (setValue m n ws (e .1) v) (listOf t)) (value-tree a (e .1) (inside .0) (inside .1) v fits) ∙ value-listed a (e .1) (inside .0) (inside .1) v fits key (listOf (a .tree)) (a .different) hit))

@@ -35,7 +35,7 @@ use Rattle.accepted.specs.Rules.{Live}
 use Rattle.accepted.specs.Accepted.{Accepted, HoldsMap, valueAtRecord}
 use Rattle.accepted.specs.Held.{form-passes}
 use Rattle.accepted.specs.Tests.{shape-passes, opened, live-passes}
-use Rattle.finding.specs.Answers.{entryFrom, nodes-entries}
+use Rattle.finding.specs.Answers.{entryFrom, nodes-entries, size-some}
 use Rattle.finding.specs.Descents.{at}
 use Rattle.stepping.specs.Parts.{PartOf, HeldPart, part-whole, map-children, map-entries, map-held, Named}
 use Rattle.stepping.specs.Opens.{Opens, opens}
@@ -184,17 +184,12 @@ module _ {m n : ℕ} {ws : List ℕ} (a : Accepted m n ws) where
   empty-end : SameEnd none (record { stack = []; last = 0 }) emptyStack
   empty-end = record { room = length-replicate 129 (at 0); counted = refl; named = tt; latest = refl; parts = tt }
 
-  -- a map with a tree is not empty
-  size-some : (t : Tree) → HoldsMap (headerOf n ws) ws (some t) → headerOf n ws .values .size ≢ 0
-  unfolding HoldsMap
-  size-some t k z = omega (arith, a .header .node-size, k .counted, nodes-entries t, entries-some t)
-
   begun : (t : Map) → HoldsMap (headerOf n ws) ws t → OrderedMap t
       → Related t (start t) (bothEnds (cond (eqb (headerOf n ws .values .size) 0) emptyStack (rootStack (headerOf n ws .root))))
   unfolding HoldsMap
   begun none k o = rw (eq-eqb (headerOf n ws .values .size) 0 k) (record { front = empty-end; back = empty-end; mark = refl; within = start-within none o })
   begun (some t) k o =
-      rw (ne-eqb (headerOf n ws .values .size) 0 (size-some t k)) (record { front = root-end t k; back = root-end t k; mark = refl; within = start-within (some t) o })
+      rw (ne-eqb (headerOf n ws .values .size) 0 (size-some a t k)) (record { front = root-end t k; back = root-end t k; mark = refl; within = start-within (some t) o })
 
   -- Making a position succeeds, and the position is related to the walk's start.
   pub made-agrees : (madeOf m n ws .answer ≡ done.Yes) × Related (a .tree) (start (a .tree)) (madeOf m n ws .position)

@@ -20,6 +20,7 @@ use Rattle.trees.specs.Map.{Map, listOf, lookupIn, map-lookup, map-ascending}
 use Rattle.trees.specs.Values.{Entry}
 use Rattle.views.specs.Small.{FitsValue}
 use Rattle.accepted.specs.Rules.{Holds}
+use Rattle.accepted.specs.Held.{list-used}
 use Rattle.accepted.specs.Accepted.{Accepted, HoldsMap, valueAtRecord}
 use Rattle.finding.specs.Answers.{valued, listed, find-all, targetFrom, target-agrees}
 use Rattle.setting.specs.Write.{update, value-accepted, value-tree, value-listed}
@@ -82,17 +83,6 @@ pub record Kept {m n : ℕ} {ws : List ℕ} (a : Accepted m n ws) (key : Key) (v
   pub values : All (λ e. _≡_ {A = Key × Value} (e .0, valueAtRecord n vs (e .1)) (touched n ws key v e)) (listOf (a .tree))
 
 module _ {m n : ℕ} {ws : List ℕ} (a : Accepted m n ws) where
-  -- every entry names a value record in 1..bump-1
-  range : (parent low : ℕ) (t : Tree) → Holds (headerOf n ws) ws parent low t → All (λ e. (1 ≤ e .1) × (e .1 < headerOf n ws .values .bump)) (entries t)
-  unfolding Holds
-  range parent low (leaf i key v) k = ((k .value-some, k .value-used), tt)
-  range parent low (inner i key p l r) k = all-append _ (entries l) (entries r) (range i (p + 1) l (k .on-left)) (range i (p + 1) r (k .on-right))
-
-  map-range : (t : Map) → HoldsMap (headerOf n ws) ws t → All (λ e. (1 ≤ e .1) × (e .1 < headerOf n ws .values .bump)) (listOf t)
-  unfolding HoldsMap
-  map-range none k = tt
-  map-range (some t) k = range 0 0 t (k .held)
-
   pub write-keeps : (key : Key) (v : Value) → FitsValue v → Kept a key v (writeImage m n ws key v)
   unfolding writeImage targetImage
   write-keeps key v fits = subst (λ (t : Target). Kept a key v (targetImage m n ws v t)) (sym (target-agrees a key)) (go (lookupIn key (a .tree)) refl)
@@ -113,7 +103,7 @@ module _ {m n : ℕ} {ws : List ℕ} (a : Accepted m n ws) where
           }
       go (some e) q =
           let hit : find key (listOf (a .tree)) ≡ some (e .1) = sym found ∙ ap valueOf q in
-          let inside = find-all (λ j. (1 ≤ j) × (j < headerOf n ws .values .bump)) key (listOf (a .tree)) (e .1) (map-range (a .tree) (a .holds)) hit in
+          let inside = find-all (λ j. (1 ≤ j) × (j < headerOf n ws .values .bump)) key (listOf (a .tree)) (e .1) (list-used (headerOf n ws) ws (a .tree) (a .holds)) hit in
           record {
             image = value-accepted a (e .1) (inside .0) (inside .1) v fits;
             same-tree = value-tree a (e .1) (inside .0) (inside .1) v fits;

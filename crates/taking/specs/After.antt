@@ -22,7 +22,7 @@ use Rattle.trees.specs.Tree.{entries}
 use Rattle.trees.specs.Lookup.{find}
 use Rattle.trees.specs.Remove.{erase}
 use Rattle.trees.specs.Map.{Map, listOf, removeFrom, map-remove, map-remove-ordered}
-use Rattle.trees.specs.Values.{Unlike, numbered-erase}
+use Rattle.trees.specs.Values.{Unlike, numbered-erase, all-erase}
 use Rattle.views.specs.Small.{Small}
 use Rattle.views.specs.Values.{RoomForAll, altered, withLink}
 use Rattle.accepted.specs.Rules.{ArenaRules, HeaderRules, Live, FreeNode, FreeValue, Chain, NodeChain, ValueChain}
@@ -82,14 +82,6 @@ others-left key (x ∷ es) j u e = go (same key (x .0)) e (others-left key es j 
     go : (b : Bool) → cond b (some (x .1)) (find key es) ≡ some j → (find key es ≡ some j → All (λ e. e .1 ≢ j) (erase key es)) → All (λ e. e .1 ≢ j) (cond b es (x ∷ erase key es))
     go true q f = let here : x .1 ≡ j = cc in all-map (λ y d w. d (here ∙ sym w)) es (u .0)
     go false q f = (find-all (λ w. x .1 ≢ w) key es j (u .0) q, f q)
-
-all-erase : (P : Key × ℕ → Type 0) (key : Key) (es : List (Key × ℕ)) → All P es → All P (erase key es)
-all-erase P key [] h = tt
-all-erase P key (e ∷ es) h = go (same key (e .0)) (all-erase P key es (h .1))
-  where
-    go : (b : Bool) → All P (erase key es) → All P (cond b es (e ∷ erase key es))
-    go true r = h .1
-    go false r = (h .0, r)
 
 -- the list of keys and values without the key
 erase-valued : (n : ℕ) (ws : List ℕ) (key : Key) (es : List (Key × ℕ)) → erase key (valued n ws es) ≡ valued n ws (erase key es)

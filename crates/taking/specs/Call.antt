@@ -23,22 +23,13 @@ use Rattle.accepted.specs.Rules.{Live}
 use Rattle.accepted.specs.Accepted.{Accepted, valueAtRecord}
 use Rattle.accepted.specs.Tests.{opened, live-passes}
 use Rattle.finding.specs.Descents.{stopFrom}
-use Rattle.finding.specs.Answers.{valued, listed, gotFrom, find-all, landing, reach-tree}
+use Rattle.finding.specs.Answers.{valued, listed, gotFrom, find-all, landing, reach-tree, find-valued}
 use Rattle.taking.specs.Spot.{hit-leaf}
 use Rattle.taking.specs.After.{removed-accepted, removed-listed}
 use Rattle.taking.specs.Cut.{cut-removed, cut-plan, cut-value}
 use Rattle.taking.specs.Lone.{lone-removed, lone-plan, lone-value}
 
 -- ---- the list's remove
-
-find-valued : (n : ℕ) (ws : List ℕ) (key : Key) (es : List (Key × ℕ)) → find key (valued n ws es) ≡ Option·map (valueAtRecord n ws) (find key es)
-find-valued n ws key [] = refl
-find-valued n ws key (e ∷ es) = go (same key (e .0)) (find-valued n ws key es)
-  where
-    go : (b : Bool) → find key (valued n ws es) ≡ Option·map (valueAtRecord n ws) (find key es)
-        → cond b (some (valueAtRecord n ws (e .1))) (find key (valued n ws es)) ≡ Option·map (valueAtRecord n ws) (cond b (some (e .1)) (find key es))
-    go true x = refl
-    go false x = x
 
 -- a key that is not held is not removed
 erase-missed : {A : Type 0} (key : Key) (es : List (Key × A)) → find key es ≡ none → erase key es ≡ es

@@ -38,7 +38,7 @@ numbered-end b x es n = (z .0 .0, d .2 .0, record { nonzero = z .1; different = 
 
 -- ---- insert, which takes a record that no entry names
 
-all-put : (P : Entry → Type 0) (k : Key) (v : ℕ) (es : List Entry) → P (k, v) → All P es → All P (put k v es)
+pub all-put : (P : Entry → Type 0) (k : Key) (v : ℕ) (es : List Entry) → P (k, v) → All P es → All P (put k v es)
 all-put P k v [] p h = (p, tt)
 all-put P k v (e ∷ es) p h =
     chosen (All P) (same k (e .0)) (e ∷ es) (cond (ltb (numberOf k) (numberOf (e .0))) ((k, v) ∷ e ∷ es) (e ∷ put k v es)) h
@@ -56,7 +56,7 @@ numbered-put k v es z f n = record { nonzero = all-put (λ e. e .1 ≢ 0) k v es
 
 -- ---- remove
 
-all-erase : (P : Entry → Type 0) (k : Key) (es : List Entry) → All P es → All P (erase k es)
+pub all-erase : (P : Entry → Type 0) (k : Key) (es : List Entry) → All P es → All P (erase k es)
 all-erase P k [] h = tt
 all-erase P k (e ∷ es) h = chosen (All P) (same k (e .0)) es (e ∷ erase k es) (h .1) (h .0, all-erase P k es (h .1))
 
