@@ -72,87 +72,56 @@ module _ (vs ws : List ℕ) (y : ℕ) (f : Same vs ws (nodeAt y + 4) (nodeAt y +
   same-padding : wideAt vs (nodeAt y + 10) ≡ wideAt ws (nodeAt y + 10)
   same-padding = wide-same vs ws (nodeAt y + 10) (f (nodeAt y + 10) (omega arith) (omega arith)) (f (nodeAt y + 10 + 1) (omega arith) (omega arith))
 
+-- a node by its four registers, whose content stays
+node-parts : (vs ws : List ℕ) (y : ℕ) {a b c d : ℕ} → getD vs (nodeAt y) 0 ≡ a → getD vs (nodeAt y + 1) 0 ≡ b → getD vs (nodeAt y + 2) 0 ≡ c → getD vs (nodeAt y + 3) 0 ≡ d
+    → Same vs ws (nodeAt y + 4) (nodeAt y + 12)
+    → nodeOf vs y
+    ≡ record {
+      left = record { 0 = a };
+      right = record { 0 = b };
+      parent = record { 0 = c };
+      value = record { 0 = d };
+      key = nodeOf ws y .key;
+      prefix = nodeOf ws y .prefix;
+      padding = nodeOf ws y .padding;
+    }
+unfolding nodeOf
+node-parts vs ws y zero one two three rest = λ ι. record {
+  left = record { 0 = zero ι };
+  right = record { 0 = one ι };
+  parent = record { 0 = two ι };
+  value = record { 0 = three ι };
+  key = same-key vs ws y rest ι;
+  prefix = same-prefix vs ws y rest ι;
+  padding = same-padding vs ws y rest ι;
+}
+
 pub node-same : (vs ws : List ℕ) (y : ℕ) → Same vs ws (nodeAt y) (nodeAt y + 12) → nodeOf vs y ≡ nodeOf ws y
 unfolding nodeOf
 node-same vs ws y f =
-    let rest : Same vs ws (nodeAt y + 4) (nodeAt y + 12) = λ k h l. f k (omega arith) l in
-    let zero : getD vs (nodeAt y) 0 ≡ getD ws (nodeAt y) 0 = f (nodeAt y) (omega arith) (omega arith) in
-    let one : getD vs (nodeAt y + 1) 0 ≡ getD ws (nodeAt y + 1) 0 = f (nodeAt y + 1) (omega arith) (omega arith) in
-    let two : getD vs (nodeAt y + 2) 0 ≡ getD ws (nodeAt y + 2) 0 = f (nodeAt y + 2) (omega arith) (omega arith) in
-    let three : getD vs (nodeAt y + 3) 0 ≡ getD ws (nodeAt y + 3) 0 = f (nodeAt y + 3) (omega arith) (omega arith) in
-    λ ι. record {
-      left = record { 0 = zero ι };
-      right = record { 0 = one ι };
-      parent = record { 0 = two ι };
-      value = record { 0 = three ι };
-      key = same-key vs ws y rest ι;
-      prefix = same-prefix vs ws y rest ι;
-      padding = same-padding vs ws y rest ι;
-    }
+    node-parts vs ws y (f _ (omega arith) (omega arith)) (f _ (omega arith) (omega arith)) (f _ (omega arith) (omega arith)) (f _ (omega arith) (omega arith)) (λ k h l. f k (omega arith) l)
 
 -- one register differs
 register-one : (f : Field) (vs ws : List ℕ) (y v : ℕ) → getD vs (nodeAt y + registerOf f) 0 ≡ v
     → ((k : ℕ) → nodeAt y ≤ k → k < nodeAt y + 12 → k ≢ nodeAt y + registerOf f → getD vs k 0 ≡ getD ws k 0)
     → nodeOf vs y ≡ withField f v (nodeOf ws y)
 unfolding nodeOf
-register-one field.Left vs ws y v e f =
-    let rest : Same vs ws (nodeAt y + 4) (nodeAt y + 12) = λ k h l. f k (omega arith) l (λ q. omega arith) in
-    let place : nodeAt y + 0 ≡ nodeAt y = omega arith in
-    let zero : getD vs (nodeAt y) 0 ≡ v = ap (λ (k : ℕ). getD vs k 0) (sym place) ∙ e in
-    let one : getD vs (nodeAt y + 1) 0 ≡ getD ws (nodeAt y + 1) 0 = f (nodeAt y + 1) (omega arith) (omega arith) (λ q. omega arith) in
-    let two : getD vs (nodeAt y + 2) 0 ≡ getD ws (nodeAt y + 2) 0 = f (nodeAt y + 2) (omega arith) (omega arith) (λ q. omega arith) in
-    let three : getD vs (nodeAt y + 3) 0 ≡ getD ws (nodeAt y + 3) 0 = f (nodeAt y + 3) (omega arith) (omega arith) (λ q. omega arith) in
-    λ ι. record {
-      left = record { 0 = zero ι };
-      right = record { 0 = one ι };
-      parent = record { 0 = two ι };
-      value = record { 0 = three ι };
-      key = same-key vs ws y rest ι;
-      prefix = same-prefix vs ws y rest ι;
-      padding = same-padding vs ws y rest ι;
-    }
-register-one field.Right vs ws y v e f =
-    let rest : Same vs ws (nodeAt y + 4) (nodeAt y + 12) = λ k h l. f k (omega arith) l (λ q. omega arith) in
-    let zero : getD vs (nodeAt y) 0 ≡ getD ws (nodeAt y) 0 = f (nodeAt y) (omega arith) (omega arith) (λ q. omega arith) in
-    let two : getD vs (nodeAt y + 2) 0 ≡ getD ws (nodeAt y + 2) 0 = f (nodeAt y + 2) (omega arith) (omega arith) (λ q. omega arith) in
-    let three : getD vs (nodeAt y + 3) 0 ≡ getD ws (nodeAt y + 3) 0 = f (nodeAt y + 3) (omega arith) (omega arith) (λ q. omega arith) in
-    λ ι. record {
-      left = record { 0 = zero ι };
-      right = record { 0 = e ι };
-      parent = record { 0 = two ι };
-      value = record { 0 = three ι };
-      key = same-key vs ws y rest ι;
-      prefix = same-prefix vs ws y rest ι;
-      padding = same-padding vs ws y rest ι;
-    }
-register-one field.Parent vs ws y v e f =
-    let rest : Same vs ws (nodeAt y + 4) (nodeAt y + 12) = λ k h l. f k (omega arith) l (λ q. omega arith) in
-    let zero : getD vs (nodeAt y) 0 ≡ getD ws (nodeAt y) 0 = f (nodeAt y) (omega arith) (omega arith) (λ q. omega arith) in
-    let one : getD vs (nodeAt y + 1) 0 ≡ getD ws (nodeAt y + 1) 0 = f (nodeAt y + 1) (omega arith) (omega arith) (λ q. omega arith) in
-    let three : getD vs (nodeAt y + 3) 0 ≡ getD ws (nodeAt y + 3) 0 = f (nodeAt y + 3) (omega arith) (omega arith) (λ q. omega arith) in
-    λ ι. record {
-      left = record { 0 = zero ι };
-      right = record { 0 = one ι };
-      parent = record { 0 = e ι };
-      value = record { 0 = three ι };
-      key = same-key vs ws y rest ι;
-      prefix = same-prefix vs ws y rest ι;
-      padding = same-padding vs ws y rest ι;
-    }
-register-one field.Value vs ws y v e f =
-    let rest : Same vs ws (nodeAt y + 4) (nodeAt y + 12) = λ k h l. f k (omega arith) l (λ q. omega arith) in
-    let zero : getD vs (nodeAt y) 0 ≡ getD ws (nodeAt y) 0 = f (nodeAt y) (omega arith) (omega arith) (λ q. omega arith) in
-    let one : getD vs (nodeAt y + 1) 0 ≡ getD ws (nodeAt y + 1) 0 = f (nodeAt y + 1) (omega arith) (omega arith) (λ q. omega arith) in
-    let two : getD vs (nodeAt y + 2) 0 ≡ getD ws (nodeAt y + 2) 0 = f (nodeAt y + 2) (omega arith) (omega arith) (λ q. omega arith) in
-    λ ι. record {
-      left = record { 0 = zero ι };
-      right = record { 0 = one ι };
-      parent = record { 0 = two ι };
-      value = record { 0 = e ι };
-      key = same-key vs ws y rest ι;
-      prefix = same-prefix vs ws y rest ι;
-      padding = same-padding vs ws y rest ι;
-    }
+register-one g vs ws y v e f = go g e f
+  where
+    rest : (r : ℕ) → r < 4 → ((k : ℕ) → nodeAt y ≤ k → k < nodeAt y + 12 → k ≢ nodeAt y + r → getD vs k 0 ≡ getD ws k 0) → Same vs ws (nodeAt y + 4) (nodeAt y + 12)
+    rest r less f k h l = f k (omega arith) l (λ q. omega arith)
+
+    go : (g : Field) → getD vs (nodeAt y + registerOf g) 0 ≡ v
+        → ((k : ℕ) → nodeAt y ≤ k → k < nodeAt y + 12 → k ≢ nodeAt y + registerOf g → getD vs k 0 ≡ getD ws k 0) → nodeOf vs y ≡ withField g v (nodeOf ws y)
+    go field.Left e f =
+        let first : nodeAt y + 0 ≡ nodeAt y = omega arith in
+        node-parts vs ws y (ap (λ (k : ℕ). getD vs k 0) (sym first) ∙ e) (f _ (omega arith) (omega arith) (λ q. omega arith)) (f _ (omega arith) (omega arith) (λ q. omega arith)) (f _ (omega arith) (omega arith) (λ q. omega arith)) (rest 0 (omega arith) f)
+    go field.Right e f =
+        node-parts vs ws y (f _ (omega arith) (omega arith) (λ q. omega arith)) e (f _ (omega arith) (omega arith) (λ q. omega arith)) (f _ (omega arith) (omega arith) (λ q. omega arith)) (rest 1 (omega arith) f)
+    go field.Parent e f =
+        node-parts vs ws y (f _ (omega arith) (omega arith) (λ q. omega arith)) (f _ (omega arith) (omega arith) (λ q. omega arith)) e (f _ (omega arith) (omega arith) (λ q. omega arith)) (rest 2 (omega arith) f)
+    go field.Value e f =
+        node-parts vs ws y (f _ (omega arith) (omega arith) (λ q. omega arith)) (f _ (omega arith) (omega arith) (λ q. omega arith)) (f _ (omega arith) (omega arith) (λ q. omega arith)) e (rest 3 (omega arith) f)
 
 -- ---- the content of the node that begins at k
 
