@@ -1,0 +1,61 @@
+-- A whole input, byte by byte: LF (10) ends a line, the line is answered, and the next begins. What an input is answered does not depend on the pieces in which it comes.
+use mathlib.Core.Path.{_≡_, refl, sym, ap, _∙_}
+use mathlib.Core.List.{List, [], _∷_, _++_, append-assoc}
+use mathlib.Core.Bool.{cond}
+use Prim.Native.Nat.{ℕ, _+_, _-_}
+use lib.Dec.{eqb}
+use Rattle.commands.specs.Lines.{commandOf}
+use Rattle.commands.specs.Answers.{answerOf, imageAfter}
+
+-- what a byte does behind the bytes of a line that has begun: it ends the line, or belongs to it
+unfoldable pub byteText : ℕ → ℕ → List ℕ → List ℕ → ℕ → List ℕ
+byteText m n ws line b = cond (eqb b 10) (answerOf m n ws (commandOf line)) []
+
+unfoldable pub byteImage : ℕ → ℕ → List ℕ → List ℕ → ℕ → List ℕ
+byteImage m n ws line b = cond (eqb b 10) (imageAfter m n ws (commandOf line)) ws
+
+unfoldable pub byteLine : List ℕ → ℕ → List ℕ
+byteLine line b = cond (eqb b 10) [] (line ++ (b ∷ []))
+
+-- what bytes are answered, the image behind them, and the line that has begun behind them
+unfoldable pub fedText : ℕ → ℕ → List ℕ → List ℕ → List ℕ → List ℕ
+fedText m n ws line [] = []
+fedText m n ws line (b ∷ bytes) = byteText m n ws line b ++ fedText m n (byteImage m n ws line b) (byteLine line b) bytes
+
+unfoldable pub fedImage : ℕ → ℕ → List ℕ → List ℕ → List ℕ → List ℕ
+fedImage m n ws line [] = ws
+fedImage m n ws line (b ∷ bytes) = fedImage m n (byteImage m n ws line b) (byteLine line b) bytes
+
+unfoldable pub fedLine : List ℕ → List ℕ → List ℕ
+fedLine line [] = line
+fedLine line (b ∷ bytes) = fedLine (byteLine line b) bytes
+
+-- a last line without LF counts if it has a byte
+unfoldable pub lastText : ℕ → ℕ → List ℕ → List ℕ → List ℕ
+lastText m n ws [] = []
+lastText m n ws (b ∷ line) = answerOf m n ws (commandOf (b ∷ line))
+
+-- what a whole input is answered
+unfoldable pub inputText : ℕ → ℕ → List ℕ → List ℕ → List ℕ
+inputText m n ws bytes = fedText m n ws [] bytes ++ lastText m n (fedImage m n ws [] bytes) (fedLine [] bytes)
+
+-- ---- cut anywhere
+
+module _ (m n : ℕ) where
+  pub fed-text-append : (ws line s t : List ℕ)
+      → fedText m n ws line (s ++ t) ≡ fedText m n ws line s ++ fedText m n (fedImage m n ws line s) (fedLine line s) t
+  unfolding fedText fedImage fedLine
+  fed-text-append ws line [] t = refl
+  fed-text-append ws line (b ∷ s) t =
+      ap (λ (x : List ℕ). byteText m n ws line b ++ x) (fed-text-append (byteImage m n ws line b) (byteLine line b) s t)
+      ∙ sym (append-assoc (byteText m n ws line b) (fedText m n (byteImage m n ws line b) (byteLine line b) s) _)
+
+  pub fed-image-append : (ws line s t : List ℕ) → fedImage m n ws line (s ++ t) ≡ fedImage m n (fedImage m n ws line s) (fedLine line s) t
+  unfolding fedImage fedLine
+  fed-image-append ws line [] t = refl
+  fed-image-append ws line (b ∷ s) t = fed-image-append (byteImage m n ws line b) (byteLine line b) s t
+
+pub fed-line-append : (line s t : List ℕ) → fedLine line (s ++ t) ≡ fedLine (fedLine line s) t
+unfolding fedLine
+fed-line-append line [] t = refl
+fed-line-append line (b ∷ s) t = fed-line-append (byteLine line b) s t

@@ -1,0 +1,52 @@
+-- Document 01's whole case, computed in the program's map of M 256 and N 512: the bytes of the five lines, and the bytes that they are answered.
+use mathlib.Core.Path.{_≡_, refl}
+use mathlib.Core.List.{List, [], _∷_, _++_}
+use Prim.Native.Nat.{ℕ}
+use lib.ListN.{replicate}
+use Rattle.insert.specs.Examples.{blank, started}
+use Rattle.words.specs.Wide.{wideAt, setWide}
+use Rattle.words.specs.Zeros.{zerosAt}
+use Rattle.keys.specs.Common.{commonOf, common, bitOf}
+use Rattle.keys.specs.Number.{numberOf}
+use Rattle.node_allocator.specs.Layout.{headerAt, recordAt, capacityOf, widthOf}
+use Rattle.node_allocator.specs.Steps.{countsOf, getRegister, setRegister, connected, disconnected, neverUsed, freshTaken, freedTaken, unlinked, addIndex, addImage, removeImage}
+use Rattle.records.specs.Numbers.{refusalNumber}
+use Rattle.records.specs.Opening.{openOf}
+use Rattle.records.specs.Records.{headerOf, nodeOf, recordFrom}
+use Rattle.records.specs.Tests.{arenaOk, countsOk, headerOk, formOk, nodeOk, kidsOk, freeNode, freeValue}
+use Rattle.records.specs.Writes.{setContent, setValue}
+use Rattle.descent.specs.Descent.{childOf, lookupTurn, reachTurn, stepOf, descend, fromRoot}
+use Rattle.lookup.specs.Get.{leafTarget, stopTarget, openedTarget, targetOf}
+use Rattle.insert.specs.Plan.{takenNode, nextNode, takenValue, firstPlan, stopPlan, planOf}
+use Rattle.insert.specs.Steps.{leafTaken, valueTaken, leafAdded, copyTaken, hung, duplicated, replaced, firstImage, sharedOf, forkedImage, splitImage, planImage, planPlace, openedPlan, insertOf, insertImage}
+use Rattle.remove_steps.specs.Steps.{siblingOf, unhung, leafRemoved, contentMoved, valueMoved, kidsMoved, placeFreed, migrated, cutImage}
+use Rattle.remove.specs.Plan.{siblingOk, leafPlan, stopPlan as remove·stopPlan}
+use Rattle.remove.specs.Steps.{planImage as remove·planImage, valueGone, openedPlan as remove·openedPlan, removeOf, removedImage}
+use Rattle.listing.specs.Position.{openedMade, madeOf}
+use Rattle.listing.specs.Step.{openTo, popTo, leafMoved, openedMoved, movedOf, openedStep, stepOf as listing·stepOf}
+use Rattle.commands.specs.Digits.{glyph, digits, widthOf as commands·widthOf, decimalOf, isDigit, digitOf, digitsAt, valueAt}
+use Rattle.commands.specs.Lines.{wordAt, fieldAt, oneField, twoFields, insertAsked, writeAsked, removeAsked, getAsked, aloneAsked, letterAsked, commandOf}
+use Rattle.commands.specs.Answers.{pairText, entryText, endText, refusalText, placeText, goneText, closeText, stepText, listText, allText, answerOf, imageAfter}
+use Rattle.commands.specs.Session.{byteText, byteImage, byteLine, fedText, fedImage, fedLine, lastText, inputText}
+
+abbrev case : List ℕ
+case =
+    ((105 ∷ 32 ∷ 56 ∷ []) ++ replicate 31 48 ++ (32 ∷ []) ++ replicate 31 48 ++ (49 ∷ 10 ∷ []))
+    ++ ((105 ∷ 32 ∷ []) ++ replicate 32 48 ++ (32 ∷ []) ++ replicate 31 48 ++ (50 ∷ 10 ∷ []))
+    ++ ((105 ∷ 32 ∷ []) ++ replicate 31 48 ++ (49 ∷ 32 ∷ []) ++ replicate 31 48 ++ (51 ∷ 10 ∷ []))
+    ++ ((114 ∷ 32 ∷ 56 ∷ []) ++ replicate 31 48 ++ (10 ∷ []))
+    ++ ((97 ∷ 10 ∷ []))
+
+abbrev answer : List ℕ
+answer =
+    ((111 ∷ 107 ∷ 32 ∷ 49 ∷ 10 ∷ []))
+    ++ ((111 ∷ 107 ∷ 32 ∷ 50 ∷ 10 ∷ []))
+    ++ ((111 ∷ 107 ∷ 32 ∷ 52 ∷ 10 ∷ []))
+    ++ ((103 ∷ 111 ∷ 110 ∷ 101 ∷ 32 ∷ []) ++ replicate 31 48 ++ (49 ∷ 10 ∷ []))
+    ++ (replicate 32 48 ++ (32 ∷ []) ++ replicate 31 48 ++ (50 ∷ 10 ∷ []))
+    ++ (replicate 31 48 ++ (49 ∷ 32 ∷ []) ++ replicate 31 48 ++ (51 ∷ 10 ∷ []))
+    ++ ((101 ∷ 110 ∷ 100 ∷ 32 ∷ 50 ∷ 10 ∷ []))
+
+pub whole-case : inputText 256 512 (started 256 512) case ≡ answer
+unfolding wideAt setWide zerosAt commonOf common bitOf numberOf headerAt recordAt capacityOf widthOf countsOf getRegister setRegister connected disconnected neverUsed freshTaken freedTaken unlinked addIndex addImage removeImage refusalNumber openOf headerOf nodeOf recordFrom arenaOk countsOk headerOk formOk nodeOk kidsOk freeNode freeValue setContent setValue childOf lookupTurn reachTurn stepOf descend fromRoot leafTarget stopTarget openedTarget targetOf takenNode nextNode takenValue firstPlan stopPlan planOf leafTaken valueTaken leafAdded copyTaken hung duplicated replaced firstImage sharedOf forkedImage splitImage planImage planPlace openedPlan insertOf insertImage siblingOf unhung leafRemoved contentMoved valueMoved kidsMoved placeFreed migrated cutImage siblingOk leafPlan remove·stopPlan remove·planImage valueGone remove·openedPlan removeOf removedImage openedMade madeOf openTo popTo leafMoved openedMoved movedOf openedStep listing·stepOf glyph digits commands·widthOf decimalOf isDigit digitOf digitsAt valueAt wordAt fieldAt oneField twoFields insertAsked writeAsked removeAsked getAsked aloneAsked letterAsked commandOf pairText entryText endText refusalText placeText goneText closeText stepText listText allText answerOf imageAfter byteText byteImage byteLine fedText fedImage fedLine lastText inputText blank started
+whole-case = refl

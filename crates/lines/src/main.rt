@@ -1,0 +1,153 @@
+// The command program's lines, cut at every place: standard input is answered as one piece, and then again in pieces of each length from 1 to 200 bytes. It writes the answers to the whole,
+// and how many of the other runs answer the same bytes.
+use commands::pieces::answer_lines;
+use commands::pieces::finish;
+use commands::pieces::keep;
+use lookup::start::start;
+ghost use Prim.Native.Nat.{_+_, _≤_, _<_};
+ghost use lib.ListN.{length};
+
+// Makes memory blank.
+fn blank(img: &mut [u8]) {
+    let mut k: usize = 0;
+    while k < img.len() {
+        img[k] = 0;
+        k += 1;
+    }
+}
+
+// Copies bytes of a text into a buffer.
+fn copy(text: &[u8], from: usize, many: usize, buf: &mut [u8], to: usize)
+    requires { ⌜ (from + many ≤ length (now text)) × (to + many ≤ length (now buf)) ⌝ }
+{
+    let mut k: usize = 0;
+    while k < many {
+        buf[to + k] = text[from + k];
+        k += 1;
+    }
+}
+
+// Whether the first bytes of two buffers are the same.
+fn same(a: &[u8], b: &[u8], many: usize) -> bool
+    requires { ⌜ (many ≤ length (now a)) × (many ≤ length (now b)) ⌝ }
+{
+    let mut k: usize = 0;
+    while k < many {
+        if a[k] != b[k] {
+            return false;
+        }
+        k += 1;
+    }
+    true
+}
+
+// The bytes that a piece has: `size`, or what is left.
+fn piece(size: usize, left: usize) -> usize
+    requires { ⌜ (1 ≤ size) × (1 ≤ left) ⌝ }
+    ensures { λ r. ⌜ (1 ≤ r) × (r ≤ size) × (r ≤ left) ⌝ }
+{
+    if size < left { size } else { left }
+}
+
+// The last line, where the output has room.
+fn last(buf: &[u8], have: usize, long: bool, img: &mut [u8], out: &mut [u8], at: usize) -> usize
+    requires { ⌜ (have ≤ length (now buf)) × (at ≤ length (now out)) ⌝ }
+    ensures { λ r. ⌜ r ≤ length (now (out .entry)) ⌝ }
+{
+    if out.len() - at < 16911 {
+        return at;
+    }
+    finish(buf, have, long, img, out, at)
+}
+
+// The answers to a text that comes in pieces of so many bytes: how many bytes they are.
+fn feed(text: &[u8], size: usize, img: &mut [u8], buf: &mut [u8], out: &mut [u8]) -> usize
+    requires { ⌜ (1 ≤ size) × (80 + size ≤ length (now buf)) ⌝ }
+    ensures { λ r. ⌜ r ≤ length (now (out .entry)) ⌝ }
+{
+    let mut from: usize = 0;
+    let mut have: usize = 0;
+    let mut long = false;
+    let mut at: usize = 0;
+    while from < text.len() {
+        let many = piece(size, text.len() - from);
+        copy(text, from, many, buf, have);
+        from += many;
+        let end = have + many;
+        let t = answer_lines(buf, 0, end, long, img, out, at);
+        at = t.at;
+        let kept = keep(buf, t.from, end, t.long);
+        have = kept.have;
+        long = kept.long;
+    }
+    last(buf, have, long, img, out, at)
+}
+
+// A run on a new map.
+fn run(text: &[u8], size: usize, img: &mut [u8], buf: &mut [u8], out: &mut [u8]) -> usize
+    requires { ⌜ (1 ≤ size) × (80 + size ≤ length (now buf)) ⌝ }
+    ensures { λ r. ⌜ r ≤ length (now (out .entry)) ⌝ }
+{
+    blank(img);
+    start(img, 256, 512);
+    feed(text, size, img, buf, out)
+}
+
+// Whether a run in pieces answers what the first run did.
+fn agrees(
+    text: &[u8],
+    size: usize,
+    img: &mut [u8],
+    buf: &mut [u8],
+    first: &[u8],
+    out: &mut [u8],
+) -> bool
+    requires { ⌜ (1 ≤ size) × (80 + size ≤ length (now buf)) ⌝ }
+{
+    let many = run(text, size, img, buf, out);
+    if many == first.len() {
+        return same(first, out, many);
+    }
+    false
+}
+
+// How many of the lengths from 1 to 200 agree.
+fn count(text: &[u8], img: &mut [u8], buf: &mut [u8], first: &[u8], out: &mut [u8]) -> u64
+    requires { ⌜ 280 ≤ length (now buf) ⌝ }
+{
+    let mut agreed: u64 = 0;
+    let mut size: usize = 1;
+    while size <= 200 {
+        if agrees(text, size, img, buf, first, out) {
+            agreed = std::num::wrapping_add_u64(agreed, 1);
+        }
+        size += 1;
+    }
+    agreed
+}
+
+// The answers to the whole, and how many lengths agree.
+fn report(text: &[u8], n: usize, img: &mut [u8], buf: &mut [u8], first: &mut [u8], out: &mut [u8])
+    requires { ⌜ (n ≤ length (now text)) × (60080 ≤ length (now buf)) ⌝ }
+{
+    let many = run(&text[0..n], 60000, img, buf, first);
+    io::write_all(1, &first[0..many]);
+    let agreed = count(&text[0..n], img, buf, &first[0..many], out);
+    io::print_decimal(1, agreed);
+    io::write_all(1, b" of 200 piece lengths agree\n");
+}
+
+fn main() {
+    let mut image = [0u8; 32816];
+    let img: &mut [u8] = &mut image;
+    let mut input = [0u8; 60000];
+    let text: &mut [u8] = &mut input;
+    let mut held = [0u8; 65536];
+    let buf: &mut [u8] = &mut held;
+    let mut whole = [0u8; 65536];
+    let first: &mut [u8] = &mut whole;
+    let mut output = [0u8; 65536];
+    let out: &mut [u8] = &mut output;
+    let n = io::read_full(0, text);
+    report(text, n, img, buf, first, out);
+}
