@@ -26,43 +26,10 @@ use Rattle.listing.specs.declared.Position.{Position}
 use Rattle.listing.specs.declared.Stepped.{Stepped}
 use Rattle.listing.specs.Position.{madeOf}
 use Rattle.listing.specs.Step.{stepOf}
-use Rattle.commands.specs.declared.Command.{Command}
-use Rattle.commands.specs.declared.Command.the-variants as command
-use Rattle.commands.specs.Digits.{hexOf, decimalOf}
-
--- ---- words
-
-abbrev pub newline : List ℕ
-newline = 10 ∷ []
-
--- `bad`, `full`, `none`, `set`
-abbrev pub badText : List ℕ
-badText = 98 ∷ 97 ∷ 100 ∷ 10 ∷ []
-
-abbrev pub fullText : List ℕ
-fullText = (102 ∷ 117 ∷ 108 ∷ 108 ∷ []) ++ newline
-
-abbrev pub noneText : List ℕ
-noneText = (110 ∷ 111 ∷ 110 ∷ 101 ∷ []) ++ newline
-
-abbrev pub setText : List ℕ
-setText = 115 ∷ 101 ∷ 116 ∷ 10 ∷ []
-
--- a key or a value: 32 hex digits, high or first word first
-unfoldable pub pairText : ℕ → ℕ → List ℕ
-pairText a b = hexOf a ++ hexOf b
-
--- `K V`
-unfoldable pub entryText : Key → Value → List ℕ
-entryText key v = pairText (key .high) (key .low) ++ (32 ∷ []) ++ pairText (v .first) (v .second) ++ newline
-
--- `end COUNT`
-unfoldable pub endText : ℕ → List ℕ
-endText k = (101 ∷ 110 ∷ 100 ∷ 32 ∷ []) ++ decimalOf k ++ newline
-
--- refusals 3 and 4, and any other
-unfoldable pub refusalText : Refusal → List ℕ
-refusalText r = cond (eqb (refusalNumber r) 3) fullText (cond (eqb (refusalNumber r) 4) noneText badText)
+use Rattle.texts.specs.declared.Command.{Command}
+use Rattle.texts.specs.declared.Command.the-variants as command
+use Rattle.texts.specs.Digits.{hexOf, decimalOf}
+use Rattle.texts.specs.Texts.{newline, badText, setText, pairText, entryText, endText, refusalText}
 
 -- ---- the answer of each call
 

@@ -8,10 +8,11 @@ use Rattle.records.specs.declared.Refusal.the-variants as no
 use Rattle.records.specs.declared.Place.the-variants as place
 use Rattle.records.specs.declared.Got.the-variants as got
 use Rattle.records.specs.declared.Done.the-variants as done
-use Rattle.commands.specs.declared.Command.the-variants as command
-use Rattle.commands.specs.Digits.{glyph, digits, widthOf, decimalOf, isDigit, digitOf, digitsAt, valueAt}
-use Rattle.commands.specs.Lines.{wordAt, fieldAt, oneField, twoFields, insertAsked, writeAsked, removeAsked, getAsked, aloneAsked, letterAsked, commandOf}
-use Rattle.commands.specs.Answers.{pairText, entryText, endText, refusalText, placeText, goneText, valText, doneText}
+use Rattle.texts.specs.declared.Command.the-variants as command
+use Rattle.texts.specs.Digits.{glyph, digits, widthOf, decimalOf, isDigit, digitOf, digitsAt, valueAt}
+use Rattle.texts.specs.Lines.{wordAt, fieldAt, oneField, twoFields, insertAsked, writeAsked, removeAsked, getAsked, aloneAsked, letterAsked, commandOf}
+use Rattle.texts.specs.Texts.{pairText, entryText, endText, refusalText}
+use Rattle.commands.specs.Answers.{placeText, goneText, valText, doneText}
 
 -- thirty-one digits `0`, and a byte behind them
 abbrev zeros31 : ℕ → List ℕ

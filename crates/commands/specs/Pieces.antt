@@ -11,11 +11,12 @@ use lib.Seq.{drop-cons, take-add, drop-drop, length-take-le, take-suc, take-suc-
 use lib.Dec.{eqb}
 use borrow.Author.Tests.{ne-eqb}
 use Rattle.records.specs.Layout.{imageOf}
-use Rattle.commands.specs.declared.Command.{Command}
-use Rattle.commands.specs.declared.Command.the-variants as command
-use Rattle.commands.specs.Put.{Written, then, nothing, reads}
-use Rattle.commands.specs.Lines.{commandOf, letterAsked, oneField, twoFields, insertAsked, writeAsked, removeAsked, getAsked, aloneAsked}
-use Rattle.commands.specs.Answers.{badText, answerOf, imageAfter}
+use Rattle.texts.specs.declared.Command.{Command}
+use Rattle.texts.specs.declared.Command.the-variants as command
+use Rattle.texts.specs.Put.{Written, then, nothing, reads}
+use Rattle.texts.specs.Lines.{commandOf, letterAsked, oneField, twoFields, insertAsked, writeAsked, removeAsked, getAsked, aloneAsked}
+use Rattle.texts.specs.Texts.{badText}
+use Rattle.commands.specs.Answers.{answerOf, imageAfter}
 use Rattle.commands.specs.Session.{byteText, byteImage, byteLine, fedText, fedImage, fedLine, lastText, fed-text-append, fed-image-append, fed-line-append}
 
 -- ---- lines that are too long

@@ -4,7 +4,7 @@ use mathlib.Core.List.{List, [], _∷_, _++_, append-assoc}
 use mathlib.Core.Bool.{cond}
 use Prim.Native.Nat.{ℕ, _+_, _-_}
 use lib.Dec.{eqb}
-use Rattle.commands.specs.Lines.{commandOf}
+use Rattle.texts.specs.Lines.{commandOf}
 use Rattle.commands.specs.Answers.{answerOf, imageAfter}
 
 -- what a byte does behind the bytes of a line that has begun: it ends the line, or belongs to it

@@ -24,9 +24,10 @@ use Rattle.remove.specs.Plan.{siblingOk, leafPlan, stopPlan as remove·stopPlan
 use Rattle.remove.specs.Steps.{planImage as remove·planImage, valueGone, openedPlan as remove·openedPlan, removeOf, removedImage}
 use Rattle.listing.specs.Position.{openedMade, madeOf}
 use Rattle.listing.specs.Step.{openTo, popTo, leafMoved, openedMoved, movedOf, openedStep, stepOf as listing·stepOf}
-use Rattle.commands.specs.Digits.{glyph, digits, widthOf as commands·widthOf, decimalOf, isDigit, digitOf, digitsAt, valueAt}
-use Rattle.commands.specs.Lines.{wordAt, fieldAt, oneField, twoFields, insertAsked, writeAsked, removeAsked, getAsked, aloneAsked, letterAsked, commandOf}
-use Rattle.commands.specs.Answers.{pairText, entryText, endText, refusalText, placeText, goneText, closeText, stepText, listText, allText, answerOf, imageAfter}
+use Rattle.texts.specs.Digits.{glyph, digits, widthOf as commands·widthOf, decimalOf, isDigit, digitOf, digitsAt, valueAt}
+use Rattle.texts.specs.Lines.{wordAt, fieldAt, oneField, twoFields, insertAsked, writeAsked, removeAsked, getAsked, aloneAsked, letterAsked, commandOf}
+use Rattle.texts.specs.Texts.{pairText, entryText, endText, refusalText}
+use Rattle.commands.specs.Answers.{placeText, goneText, closeText, stepText, listText, allText, answerOf, imageAfter}
 use Rattle.commands.specs.Session.{byteText, byteImage, byteLine, fedText, fedImage, fedLine, lastText, inputText}
 
 abbrev case : List ℕ

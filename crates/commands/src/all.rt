@@ -1,14 +1,14 @@
 // The listing from the front, entry by entry, one line each, and its last line.
 use crate::answer::answer_close;
-use crate::print::put_end;
-use crate::print::put_entry;
 use listing::step::list;
 use listing::step::next;
 use records::Entry;
+use texts::print::put_end;
+use texts::print::put_entry;
 ghost use Prim.Native.Nat.{_+_, _<_, _≤_};
 ghost use lib.ListN.{length};
 ghost use Rattle.records.specs.Layout.{imageOf};
-ghost use Rattle.commands.specs.Put.{Written};
+ghost use Rattle.texts.specs.Put.{Written};
 ghost use Rattle.commands.specs.Answers.{allText};
 
 // At most 256 lines of 66 bytes, and the last.

@@ -1,12 +1,4 @@
 // What a call's answer is written as. Each answer of these functions is under 80 bytes.
-use crate::print::put_bad;
-use crate::print::put_byte;
-use crate::print::put_decimal;
-use crate::print::put_end;
-use crate::print::put_entry;
-use crate::print::put_four;
-use crate::print::put_pair;
-use crate::print::put_refusal;
 use records::Done;
 use records::Entry;
 use records::Got;
@@ -15,11 +7,19 @@ use records::Place;
 use records::Refusal;
 use records::Value;
 use records::number;
+use texts::print::put_bad;
+use texts::print::put_byte;
+use texts::print::put_decimal;
+use texts::print::put_end;
+use texts::print::put_entry;
+use texts::print::put_four;
+use texts::print::put_pair;
+use texts::print::put_refusal;
 ghost use Prim.Native.Nat.{_+_, _≤_};
 ghost use lib.ListN.{length};
 ghost use Rattle.records.specs.declared.Got.the-variants.{Found};
 ghost use Rattle.records.specs.declared.Place.the-variants.{At};
-ghost use Rattle.commands.specs.Put.{Written};
+ghost use Rattle.texts.specs.Put.{Written};
 ghost use Rattle.commands.specs.Answers.{placeText, goneText, valText, doneText, oneText, closeText};
 
 fn put_index(out: &mut [u8], at: usize, i: NodeIndex) -> usize

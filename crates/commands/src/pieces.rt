@@ -1,13 +1,13 @@
 // Input that comes in pieces: lines are cut wherever they fall. A buffer holds the bytes of the line that has begun, at its front, and behind them the next piece.
 // A line of more than 80 bytes is not kept: it is marked, and answered when it ends.
-use crate::print::put_bad;
 use crate::run::line;
+use texts::print::put_bad;
 ghost use mathlib.Core.Path.{_≡_};
 ghost use Prim.Native.Nat.{ℕ, _+_, _-_, _<_, _≤_};
 ghost use mathlib.Core.List.{List, _++_};
 ghost use lib.ListN.{length, getD};
 ghost use Rattle.records.specs.Layout.{imageOf};
-ghost use Rattle.commands.specs.Put.{Written};
+ghost use Rattle.texts.specs.Put.{Written};
 ghost use Rattle.commands.specs.Session.{lastText};
 ghost use Rattle.commands.specs.Pieces.{Before, Ended, Fed, Held, part};
 

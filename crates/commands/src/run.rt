@@ -1,15 +1,15 @@
 // A command on the map: the call, and its answer. M is 256 and N 512.
-use crate::Command;
 use crate::all::put_all;
 use crate::answer::answer_done;
 use crate::answer::answer_entry;
 use crate::answer::answer_gone;
 use crate::answer::answer_place;
 use crate::answer::answer_val;
-use crate::parse::parse;
-use crate::print::put_bad;
 use keys::Key;
 use records::Value;
+use texts::Command;
+use texts::parse::parse;
+use texts::print::put_bad;
 ghost use Prim.Native.Nat.{_+_, _≤_};
 ghost use lib.ListN.{length};
 ghost use Rattle.records.specs.Layout.{imageOf};
@@ -19,8 +19,8 @@ ghost use Rattle.lookup.specs.Get.{getOf, writeOf, writeImage};
 ghost use Rattle.lookup.specs.Ends.{smallestOf, largestOf};
 ghost use Rattle.insert.specs.Steps.{insertOf, insertImage};
 ghost use Rattle.remove.specs.Steps.{removeOf, removedImage};
-ghost use Rattle.commands.specs.Put.{Written};
-ghost use Rattle.commands.specs.Lines.{commandOf};
+ghost use Rattle.texts.specs.Put.{Written};
+ghost use Rattle.texts.specs.Lines.{commandOf};
 ghost use Rattle.commands.specs.Answers.{placeText, goneText, valText, doneText, oneText, answerOf, imageAfter, keptBy};
 
 fn insert_line(img: &mut [u8], out: &mut [u8], at: usize, key: Key, v: Value) -> usize

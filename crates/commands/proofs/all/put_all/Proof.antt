@@ -7,7 +7,7 @@ use native.Mathlib.Omega.{arith}
 use lib.ListN.{length}
 use borrow.Author.Needs.{needs}
 use Rattle.records.specs.Layout.{imageOf}
-use Rattle.commands.specs.Put.{Written, then, nothing, reads}
+use Rattle.texts.specs.Put.{Written, then, nothing, reads}
 use Rattle.commands.specs.Answers.{listText, allText, list-on, list-shut, list-end}
 use Rattle.commands.proofs.all.put_all.Statement.{statement}
 use Rattle.commands.proofs.all.put_all.Tie as tie

@@ -1,6 +1,6 @@
 -- `answer::put_gone` meets its contract. Assumes nothing.
 use native.Mathlib.Omega.{arith}
-use Rattle.commands.specs.Put.{then}
+use Rattle.texts.specs.Put.{then}
 use Rattle.commands.specs.Answers.{goneText}
 use borrow.Author.Needs.{needs}
 use Rattle.commands.proofs.answer.put_gone.Statement.{statement}

@@ -1,6 +1,6 @@
 -- `answer::put_val` meets its contract. Assumes nothing.
 use native.Mathlib.Omega.{arith}
-use Rattle.commands.specs.Put.{then}
+use Rattle.texts.specs.Put.{then}
 use Rattle.commands.specs.Answers.{valText}
 use borrow.Author.Needs.{needs}
 use Rattle.commands.proofs.answer.put_val.Statement.{statement}

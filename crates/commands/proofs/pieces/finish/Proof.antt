@@ -1,7 +1,7 @@
 -- `pieces::finish` meets its contract. Assumes nothing.
 use native.Mathlib.Omega.{arith}
 use Rattle.records.specs.Layout.{imageOf}
-use Rattle.commands.specs.Put.{reads, nothing}
+use Rattle.texts.specs.Put.{reads, nothing}
 use Rattle.commands.specs.Pieces.{last-long, last-front, last-none}
 use borrow.Author.Needs.{needs}
 use Rattle.commands.proofs.pieces.finish.Statement.{statement}
