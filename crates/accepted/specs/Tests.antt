@@ -83,7 +83,7 @@ header-rules m n h e =
     record {
       padding0 = eqb-true (h .padding0) 0 (search (and-l, and-r) depth 8);
       padding1 = eqb-true (h .padding1) 0 (search (and-l, and-r) depth 8);
-      size-most = leb-true (h .values .size) m (search (and-l, and-r) depth 8);
+      size-most = let tested : h .values .size ≤ m = leb-true (h .values .size) m (search (and-l, and-r) depth 8) in omega arith;
       node-size = eqb-true (h .nodes .size) (2 * h .values .size - 1) (search (and-l, and-r) depth 8);
       root-none = λ z. root ∙ ap (λ (b : Bool). cond b 0 1) (eq-eqb (h .values .size) 0 z);
       root-one = λ z. root ∙ ap (λ (b : Bool). cond b 0 1) (ne-eqb (h .values .size) 0 z);
@@ -136,7 +136,7 @@ link-rules : (bump i next : ℕ) → linkOk bump i next ≡ true → Link bump i
 link-rules bump i next e =
     record {
       some = leb-true 1 next (search (and-l, and-r) depth 8);
-      most = leb-true next bump (search (and-l, and-r) depth 8);
+      most = let tested : next ≤ bump = leb-true next bump (search (and-l, and-r) depth 8) in omega arith;
       other = eqb-false next i (not-true (eqb next i) (search (and-l, and-r) depth 8));
     }
 
