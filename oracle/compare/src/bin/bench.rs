@@ -41,8 +41,10 @@ fn shuffled<T>(random: &mut Random, mut things: Vec<T>) -> Vec<T> {
 fn main() {
     let rounds = std::env::args().nth(1).and_then(|text| text.parse().ok()).unwrap_or(101);
     let mut random = Random::new(2026);
-    let (mut lookup, mut insert, mut remove, mut listing, mut check) = (vec![], vec![], vec![], vec![], vec![]);
-    let (mut lookup_ns, mut insert_ns, mut remove_ns, mut listing_ns) = (vec![], vec![], vec![], vec![]);
+    let (mut lookup, mut insert, mut remove, mut listing, mut check) =
+        (vec![], vec![], vec![], vec![], vec![]);
+    let (mut lookup_ns, mut insert_ns, mut remove_ns, mut listing_ns) =
+        (vec![], vec![], vec![], vec![]);
     for _ in 0..rounds {
         let entries = keys(&mut random);
         let mut original = Image::blank(M, N).expect("built in");
@@ -87,7 +89,8 @@ fn main() {
         let port = Port { words: &mut words, m: M, n: N };
         let check_time = seconds(|| assert_eq!(port.check(&mut scratch), 0));
         let mut sum = 0u64;
-        let read_time = seconds(|| sum = black_box(original.words()).iter().map(|word| u64::from(*word)).sum());
+        let read_time =
+            seconds(|| sum = black_box(original.words()).iter().map(|word| u64::from(*word)).sum());
         black_box(sum);
         check.push(check_time / read_time);
 
@@ -123,10 +126,26 @@ fn main() {
         remove.push(port_time / time);
         remove_ns.push(time * 1e9 / f64::from(M));
     }
-    println!("lookup: {:.2} times the original ({:.0} ns a call there)", median(lookup), median(lookup_ns));
-    println!("insert: {:.2} times the original ({:.0} ns a call there)", median(insert), median(insert_ns));
-    println!("remove: {:.2} times the original ({:.0} ns a call there)", median(remove), median(remove_ns));
-    println!("whole listing: {:.2} times the original ({:.0} ns an entry there)", median(listing), median(listing_ns));
+    println!(
+        "lookup: {:.2} times the original ({:.0} ns a call there)",
+        median(lookup),
+        median(lookup_ns)
+    );
+    println!(
+        "insert: {:.2} times the original ({:.0} ns a call there)",
+        median(insert),
+        median(insert_ns)
+    );
+    println!(
+        "remove: {:.2} times the original ({:.0} ns a call there)",
+        median(remove),
+        median(remove_ns)
+    );
+    println!(
+        "whole listing: {:.2} times the original ({:.0} ns an entry there)",
+        median(listing),
+        median(listing_ns)
+    );
     println!("full check: {:.1} times one plain read of the image's words", median(check));
     println!("medians of {rounds} rounds");
 }

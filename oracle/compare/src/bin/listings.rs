@@ -53,7 +53,11 @@ fn alike(image: &mut Image, m: u32, n: u32, sides: &Sides) {
     let mut listing = image.map().listing();
     for (at, back) in sides.iter().enumerate() {
         let answer = port.step(&mut position, *back);
-        assert_eq!(answer, original_step(&mut listing, *back), "M {m} N {n}: step {at} of {sides:?}");
+        assert_eq!(
+            answer,
+            original_step(&mut listing, *back),
+            "M {m} N {n}: step {at} of {sides:?}"
+        );
     }
 }
 
@@ -180,7 +184,11 @@ fn outlive(random: &mut Random, image: &mut Image, m: u32, n: u32, keys: &[Key])
                 return (step, true);
             }
         }
-        assert_eq!(answer, original_step(&mut listing, back), "M {m} N {n}: step {step} after a change");
+        assert_eq!(
+            answer,
+            original_step(&mut listing, back),
+            "M {m} N {n}: step {step} after a change"
+        );
     }
     (3 * m as usize + 8, false)
 }
@@ -208,7 +216,13 @@ fn damaged(random: &mut Random, count: usize) -> (usize, usize) {
 }
 
 /// How many steps gave the same, and whether the port refused in the end.
-fn walked(random: &mut Random, image: &mut Image, words: &mut [u32], m: u32, n: u32) -> (usize, bool) {
+fn walked(
+    random: &mut Random,
+    image: &mut Image,
+    words: &mut [u32],
+    m: u32,
+    n: u32,
+) -> (usize, bool) {
     let port = Port { words, m, n };
     let (made, mut position) = port.list();
     if made != Answer::Done {
@@ -222,7 +236,11 @@ fn walked(random: &mut Random, image: &mut Image, words: &mut [u32], m: u32, n: 
         if matches!(answer, Answer::Refused(_)) && answer != ABSENT {
             return (step, true);
         }
-        assert_eq!(answer, original_step(&mut listing, back), "M {m} N {n}: step {step} on a damaged image");
+        assert_eq!(
+            answer,
+            original_step(&mut listing, back),
+            "M {m} N {n}: step {step} on a damaged image"
+        );
     }
     (length, false)
 }

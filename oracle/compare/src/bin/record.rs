@@ -34,7 +34,8 @@ fn main() {
                     continue;
                 }
                 let answer = guarded(&mut image, &call);
-                out.write_all(&record(&call, &answer, m, n, checksum(image.words()))).expect("written");
+                out.write_all(&record(&call, &answer, m, n, checksum(image.words())))
+                    .expect("written");
             }
         }
     }
@@ -43,7 +44,9 @@ fn main() {
 fn record(call: &Call, answer: &Answer, m: u32, n: u32, checksum: u64) -> Vec<u8> {
     let (key, value) = match call {
         Call::Insert(key, value) | Call::Write(key, value) => (*key, *value),
-        Call::Remove(key) | Call::Get(key) | Call::Contains(key) | Call::Address(key) => (*key, [0, 0]),
+        Call::Remove(key) | Call::Get(key) | Call::Contains(key) | Call::Address(key) => {
+            (*key, [0, 0])
+        }
         _ => (0, [0, 0]),
     };
     let letter = call.to_string().as_bytes()[0];
@@ -52,7 +55,18 @@ fn record(call: &Call, answer: &Answer, m: u32, n: u32, checksum: u64) -> Vec<u8
     for word in [u32::from(letter), m, n, number] {
         bytes.extend(word.to_le_bytes());
     }
-    for wide in [halves(key).0, halves(key).1, value[0], value[1], results[0], results[1], results[2], results[3], checksum, 0] {
+    for wide in [
+        halves(key).0,
+        halves(key).1,
+        value[0],
+        value[1],
+        results[0],
+        results[1],
+        results[2],
+        results[3],
+        checksum,
+        0,
+    ] {
         bytes.extend(wide.to_le_bytes());
     }
     bytes
