@@ -41,17 +41,9 @@ fn say(text: &[u8], count: u64) {
     io::write_all(1, b"\n");
 }
 
-fn blank(img: &mut [u8]) {
-    let mut k: usize = 0;
-    while k < img.len() {
-        img[k] = 0;
-        k += 1;
-    }
-}
-
 // What start answers on so many blank words of the memory.
 fn started(img: &mut [u8], count: usize, m: u32, n: u32) -> u64 {
-    blank(img);
+    words::clear(img);
     if count <= 131092 {
         if 4 * count <= img.len() {
             return answer(lookup::start::start(&mut img[..4 * count], m, n));

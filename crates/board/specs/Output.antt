@@ -5,9 +5,10 @@ use mathlib.Core.List.{List, [], _∷_, _++_}
 use mathlib.Core.Bool.{cond}
 use Prim.Native.Nat.{ℕ, _+_, _/_, _%_, _≤_, _<_}
 use native.Mathlib.Omega.{arith}
-use lib.ListN.{length, drop, set}
+use lib.ListN.{length, drop}
 use lib.Dec.{eqb, leb}
 use borrow.Author.Tests.{le-leb, lt-leb}
+use Rattle.words.specs.Words.{putWord}
 use Rattle.keys.specs.declared.Key.{Key}
 use Rattle.records.specs.declared.Value.{Value}
 use Rattle.records.specs.declared.Refusal.the-variants as no
@@ -50,10 +51,6 @@ unfoldable pub outputAfter : Got → List ℕ → List ℕ
 outputAfter a out = cond (eqb (gotNumber a) 1) out (valueBytes (gotValue a) ++ drop 16 out)
 
 -- ---- stored byte by byte
-
-unfoldable pub putWord : List ℕ → ℕ → ℕ → List ℕ
-putWord bytes at v =
-    set (set (set (set bytes at (v % 256)) (at + 1) (v / 256 % 256)) (at + 2) (v / 65536 % 256)) (at + 3) (v / 16777216)
 
 unfoldable pub putWide : List ℕ → ℕ → ℕ → List ℕ
 putWide bytes at v = putWord (putWord bytes at (v % 4294967296)) (at + 4) (v / 4294967296)

@@ -15,27 +15,16 @@ ghost use Prim.Native.Nat.{_+_, _≤_};
 ghost use lib.ListN.{length, drop};
 ghost use Rattle.records.specs.Layout.{imageOf};
 ghost use Rattle.records.specs.Numbers.{doneNumber, gotNumber};
-ghost use Rattle.board.specs.Output.{putWord, putWide, valueBytes, outputAfter, lookupOf};
+ghost use Rattle.board.specs.Output.{putWide, valueBytes, outputAfter, lookupOf};
 ghost use Rattle.board.specs.Scratch.{boardCheck, scratchAfter};
-
-// The four bytes of a word, lowest first.
-fn put_word(out: &mut [u8], at: usize, v: u32)
-    requires { ⌜ at + 4 ≤ length (now out) ⌝ }
-    ensures { λ _. ⌜ now (out .exit) ≡ putWord (now (out .entry)) at v ⌝ }
-{
-    out[at] = (v % 256) as u8;
-    out[at + 1] = (v / 256 % 256) as u8;
-    out[at + 2] = (v / 65536 % 256) as u8;
-    out[at + 3] = (v / 16777216) as u8;
-}
 
 // The eight bytes of a 64-bit word, its low word first.
 fn put_wide(out: &mut [u8], at: usize, v: u64)
     requires { ⌜ at + 8 ≤ length (now out) ⌝ }
     ensures { λ _. ⌜ now (out .exit) ≡ putWide (now (out .entry)) at v ⌝ }
 {
-    put_word(out, at, (v % 4294967296) as u32);
-    put_word(out, at + 4, (v / 4294967296) as u32);
+    words::put(out, at, (v % 4294967296) as u32);
+    words::put(out, at + 4, (v / 4294967296) as u32);
 }
 
 // The first 16 bytes are a value's; what lies behind them is as it was.

@@ -1,15 +1,14 @@
 -- What the check leaves of the scratch, byte by byte: document 01, "after any outcome but refusal 1 its first M words are zero, the rest kept". The first M words are a part of
--- the lent buffer: the laws of such a part, and of its clearing word by word.
+-- the lent buffer: the laws of such a part.
 use mathlib.Core.Path.{_≡_, refl, sym, ap, _∙_}
 use mathlib.Core.List.{List, [], _∷_, _++_}
 use mathlib.Core.Logic.{_≢_}
-use Prim.Native.Nat.{ℕ, zero, suc, _+_, _*_, _≤_, _<_}
+use Prim.Native.Nat.{ℕ, zero, suc, _*_, _≤_, _<_}
 use native.Mathlib.Omega.{arith}
-use native.Mathlib.Numerals.{add-one}
 use native.Mathlib.Decide.{ℕ-discrete, decLe}
 use native.Mathlib.Nat.{lt-of-not-le}
-use lib.ListN.{length, getD, take, drop, set, length-take, take-append-drop, replicate-append-replicate, List·getD-eq-default}
-use lib.Seq.{take-suc-set, take-all, take-at, drop-at, getD-take, length-take-le}
+use lib.ListN.{length, getD, take, drop, length-take, take-append-drop, List·getD-eq-default}
+use lib.Seq.{take-at, drop-at, getD-take, length-take-le}
 use Rattle.words.specs.Words.{words, wordOf, words-length, Bytes, words-tell}
 use Rattle.full_check.specs.Check.{unmarked, cleared}
 
@@ -92,15 +91,3 @@ one-scratch {m} {before} {a} {b} {number} fits small small′ long long′ x y =
         words-tell (take (4 * m) a) (take (4 * m) b) (small-part (4 * m) a small) (small-part (4 * m) b small′) (la ∙ sym lb) (omega arith) same in
         let back : drop (4 * m) a ≡ drop (4 * m) b = x .beyond ∙ sym (y .beyond) in
         sym (take-append-drop (4 * m) a) ∙ ap (λ s. s ++ drop (4 * m) a) front ∙ ap (λ s. take (4 * m) b ++ s) back ∙ take-append-drop (4 * m) b
-
--- ---- cleared word by word
-
-pub clear-more : (ws : List ℕ) (i : ℕ) → i < length ws → take i ws ≡ unmarked i → take (i + 1) (set ws i 0) ≡ unmarked (i + 1)
-clear-more ws i l e =
-    let one : unmarked i ++ (0 ∷ []) ≡ unmarked (i + 1) = replicate-append-replicate i 1 0 in
-    rw (← one, add-one, take-suc-set ws i 0 l, e)
-
-pub clear-end : (ws : List ℕ) (i : ℕ) → length ws ≤ i → i ≤ length ws → take i ws ≡ unmarked i → ws ≡ unmarked (length ws)
-clear-end ws i a b e =
-    let same : i ≡ length ws = omega arith in
-    sym (take-all i ws a) ∙ e ∙ ap unmarked same

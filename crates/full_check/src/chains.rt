@@ -1,7 +1,9 @@
 // The free chains, from each arena's head to its bump, and the records that were never used.
 use node_allocator::Arena;
 use node_allocator::Counts;
+use node_allocator::capacity;
 use node_allocator::record_at;
+use node_allocator::width;
 use records::Header;
 use records::NodeIndex;
 use records::ValueIndex;
@@ -14,8 +16,10 @@ ghost use mathlib.Core.Path.{_≡_};
 ghost use Prim.Native.Nat.{_+_, _-_, _*_};
 ghost use lib.ListN.{length};
 ghost use Rattle.words.specs.Words.{words};
+ghost use Rattle.words.specs.Zeros.{zerosAt};
+ghost use Rattle.node_allocator.specs.Layout.{recordAt, capacityOf, widthOf};
 ghost use Rattle.records.specs.Room.{Room};
-ghost use Rattle.full_check.specs.Chains.{freeCount, nodeChain, valueChain, nodesUnused, valuesUnused};
+ghost use Rattle.full_check.specs.Chains.{freeCount, nodeChain, valueChain};
 
 // The difference, and 0 where b is the larger.
 fn less(a: u64, b: u64) -> u64
@@ -74,32 +78,10 @@ pub fn value_chain(img: &[u8], n: u32, h: Header) -> bool
     j == values.bump
 }
 
-// Every node from the bump on is zeros.
-pub fn nodes_unused(img: &[u8], n: u32, h: Header) -> bool
-    ensures { λ r. ⌜ r ≡ nodesUnused n h (words (now (img .entry))) ⌝ }
+// Every record of an arena from the bump on is zeros.
+pub fn unused(img: &[u8], a: Arena, bump: u32) -> bool
+    ensures { λ r. ⌜ r ≡ zerosAt (words (now (img .entry))) (recordAt a bump) (widthOf a * (capacityOf a + 1 - bump)) ⌝ }
 {
-    let many = less((n as u64) + 1, h.nodes.bump as u64);
-    words::zeros(
-        img,
-        record_at(Arena::Nodes { nodes: n }, h.nodes.bump),
-        12 * (many as usize),
-    )
-}
-
-// Every value record from the bump on is zeros.
-pub fn values_unused(img: &[u8], m: u32, n: u32, h: Header) -> bool
-    ensures { λ r. ⌜ r ≡ valuesUnused m n h (words (now (img .entry))) ⌝ }
-{
-    let many = less((m as u64) + 1, h.values.bump as u64);
-    words::zeros(
-        img,
-        record_at(
-            Arena::Values {
-                nodes: n,
-                values: m,
-            },
-            h.values.bump,
-        ),
-        8 * (many as usize),
-    )
+    let many = less((capacity(a) as u64) + 1, bump as u64);
+    words::zeros(img, record_at(a, bump), width(a) * (many as usize))
 }

@@ -6,9 +6,9 @@ mod chains; // chains.rt: the free chains, and what was never used
 mod walk; // walk.rt: the tree
 
 use chains::node_chain;
-use chains::nodes_unused;
+use chains::unused;
 use chains::value_chain;
-use chains::values_unused;
+use node_allocator::Arena;
 use records::Done;
 use records::Header;
 use records::Opened;
@@ -26,18 +26,6 @@ ghost use Rattle.records.specs.Room.{Room};
 ghost use Rattle.full_check.specs.Check.{unmarked, recordsOk, openedCheck, checkOf, checkScratch};
 ghost use Rattle.full_check.specs.Scratch.{ScratchLeft};
 
-// Every word is 0.
-fn clear(marks: &mut [u8])
-    ensures { λ _. ⌜ words (now (marks .exit)) ≡ unmarked (length (words (now (marks .entry)))) ⌝ }
-{
-    let many = words::count(marks);
-    let mut i = 0;
-    while i < many {
-        words::set_word(marks, i, 0);
-        i += 1;
-    }
-}
-
 // The tree, both chains, and what was never used.
 fn records_ok(img: &[u8], marks: &mut [u8], m: u32, n: u32, h: Header) -> bool
     requires { ⌜ Room h (length (words (now img))) × (words (now marks) ≡ unmarked m) ⌝ }
@@ -46,8 +34,15 @@ fn records_ok(img: &[u8], marks: &mut [u8], m: u32, n: u32, h: Header) -> bool
     tree_ok(img, marks, n, h)
         & node_chain(img, h)
         & value_chain(img, n, h)
-        & nodes_unused(img, n, h)
-        & values_unused(img, m, n, h)
+        & unused(img, Arena::Nodes { nodes: n }, h.nodes.bump)
+        & unused(
+            img,
+            Arena::Values {
+                nodes: n,
+                values: m,
+            },
+            h.values.bump,
+        )
 }
 
 // The header, then the records, with no value record marked yet.
@@ -72,9 +67,9 @@ fn cleared_check(img: &[u8], marks: &mut [u8], m: u32, n: u32) -> Done
     ensures answer { λ r. ⌜ r ≡ openedCheck m n (imageOf (now (img .entry))) (openOf m n (imageOf (now (img .entry)))) ⌝ }
     ensures scratch { λ _. ⌜ words (now (marks .exit)) ≡ unmarked m ⌝ }
 {
-    clear(marks);
+    words::clear(marks);
     let answer = opened_check(img, marks, m, n);
-    clear(marks);
+    words::clear(marks);
     answer
 }
 

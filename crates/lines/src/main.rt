@@ -7,40 +7,6 @@ use lookup::start::start;
 ghost use Prim.Native.Nat.{_+_, _≤_, _<_};
 ghost use lib.ListN.{length};
 
-// Makes memory blank.
-fn blank(img: &mut [u8]) {
-    let mut k: usize = 0;
-    while k < img.len() {
-        img[k] = 0;
-        k += 1;
-    }
-}
-
-// Copies bytes of a text into a buffer.
-fn copy(text: &[u8], from: usize, many: usize, buf: &mut [u8], to: usize)
-    requires { ⌜ (from + many ≤ length (now text)) × (to + many ≤ length (now buf)) ⌝ }
-{
-    let mut k: usize = 0;
-    while k < many {
-        buf[to + k] = text[from + k];
-        k += 1;
-    }
-}
-
-// Whether the first bytes of two buffers are the same.
-fn same(a: &[u8], b: &[u8], many: usize) -> bool
-    requires { ⌜ (many ≤ length (now a)) × (many ≤ length (now b)) ⌝ }
-{
-    let mut k: usize = 0;
-    while k < many {
-        if a[k] != b[k] {
-            return false;
-        }
-        k += 1;
-    }
-    true
-}
-
 // The bytes that a piece has: `size`, or what is left.
 fn piece(size: usize, left: usize) -> usize
     requires { ⌜ (1 ≤ size) × (1 ≤ left) ⌝ }
@@ -71,8 +37,9 @@ fn feed(text: &[u8], size: usize, img: &mut [u8], buf: &mut [u8], out: &mut [u8]
     let mut at: usize = 0;
     while from < text.len() {
         let many = piece(size, text.len() - from);
-        copy(text, from, many, buf, have);
-        from += many;
+        let until = from + many;
+        bytes::copy(&text[from..until], &mut buf[have..]);
+        from = until;
         let end = have + many;
         let t = answer_lines(buf, 0, end, long, img, out, at);
         at = t.at;
@@ -88,7 +55,7 @@ fn run(text: &[u8], size: usize, img: &mut [u8], buf: &mut [u8], out: &mut [u8])
     requires { ⌜ (1 ≤ size) × (80 + size ≤ length (now buf)) ⌝ }
     ensures { λ r. ⌜ r ≤ length (now (out .entry)) ⌝ }
 {
-    blank(img);
+    words::clear(img);
     start(img, 256, 512);
     feed(text, size, img, buf, out)
 }
@@ -105,10 +72,7 @@ fn agrees(
     requires { ⌜ (1 ≤ size) × (80 + size ≤ length (now buf)) ⌝ }
 {
     let many = run(text, size, img, buf, out);
-    if many == first.len() {
-        return same(first, out, many);
-    }
-    false
+    check::same(first, &out[0..many])
 }
 
 // How many of the lengths from 1 to 200 agree.

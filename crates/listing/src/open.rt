@@ -2,15 +2,14 @@
 use crate::Given;
 use crate::Moved;
 use crate::Stack;
-use keys::Key;
-use node_allocator::Arena;
-use node_allocator::record_at;
 use records::Entry;
 use records::Header;
 use records::Node;
 use records::NodeIndex;
 use records::Refusal;
 use records::ValueIndex;
+use records::read::key_of;
+use records::read::node_at;
 use records::read::node_in;
 use records::read::value_record;
 use records::tests::form_ok;
@@ -60,20 +59,10 @@ fn first_ok(img: &[u8], h: Header, i: NodeIndex) -> bool
 }
 
 // The value record that a node names.
-fn value_of(img: &[u8], n: u32, i: NodeIndex) -> ValueIndex
+fn value_of(img: &[u8], i: NodeIndex) -> ValueIndex
     ensures { λ r. ⌜ r ≡ nodeOf (words (now (img .entry))) (i .0) .value ⌝ }
 {
-    ValueIndex(words::word(img, record_at(Arena::Nodes { nodes: n }, i.0) + 3))
-}
-
-fn key_of(img: &[u8], n: u32, i: NodeIndex) -> Key
-    ensures { λ r. ⌜ r ≡ nodeOf (words (now (img .entry))) (i .0) .key ⌝ }
-{
-    let at = record_at(Arena::Nodes { nodes: n }, i.0) + 4;
-    Key {
-        high: words::wide(img, at + 2),
-        low: words::wide(img, at),
-    }
+    ValueIndex(words::word(img, node_at(i) + 3))
 }
 
 // What the leaf comes to: the ends meet, or its value record is tested and its entry given.
@@ -88,7 +77,7 @@ fn given(
     ensures { λ r. ⌜ r ≡ givenOf n (words (now (img .entry))) sound leaf last other ⌝ }
 {
     if sound {
-        let j = value_of(img, n, leaf);
+        let j = value_of(img, leaf);
         if j.0 == other.0 {
             return Given {
                 moves: true,
@@ -104,7 +93,7 @@ fn given(
                 moves: true,
                 ended: false,
                 last: j,
-                entry: Entry::Is(key_of(img, n, leaf), v),
+                entry: Entry::Is(key_of(img, leaf), v),
             };
         }
     }

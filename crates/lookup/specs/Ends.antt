@@ -2,8 +2,6 @@
 use mathlib.Core.List.{List}
 use mathlib.Core.Bool.{Bool, true, false}
 use Prim.Native.Nat.{ℕ}
-use Rattle.keys.specs.declared.Key.{Key}
-use Rattle.records.specs.declared.NodeIndex.{NodeIndex}
 use Rattle.records.specs.declared.Opened.{Opened}
 use Rattle.records.specs.declared.Opened.the-variants.{Good, Shut}
 use Rattle.records.specs.declared.Entry.{Entry}
@@ -15,11 +13,8 @@ use Rattle.lookup.specs.declared.Target.{Target}
 use Rattle.lookup.specs.declared.Target.the-variants.{At, No}
 use Rattle.lookup.specs.Get.{stopTarget}
 
-abbrev pub keyOf : List ℕ → NodeIndex → Key
-keyOf ws i = nodeOf ws (i .0) .key
-
 unfoldable pub targetEntry : List ℕ → Target → Entry
-targetEntry ws (At i j v) = entry.Is (keyOf ws i) v
+targetEntry ws (At i j v) = entry.Is (nodeOf ws (i .0) .key) v
 targetEntry ws (No r) = entry.Refused r
 
 unfoldable pub openedEntry : ℕ → List ℕ → Bool → Opened → Entry

@@ -2,28 +2,13 @@
 use crate::Target;
 use crate::get::stop_target;
 use descent::find_end;
-use keys::Key;
-use node_allocator::Arena;
-use node_allocator::record_at;
 use records::Entry;
-use records::NodeIndex;
 use records::Opened;
 use records::open::open_image;
+use records::read::key_of;
 ghost use mathlib.Core.Path.{_≡_};
-ghost use Rattle.words.specs.Words.{words};
 ghost use Rattle.records.specs.Layout.{imageOf};
-ghost use Rattle.lookup.specs.Ends.{keyOf, targetEntry, endEntry, smallestOf, largestOf};
-
-// The key of a node.
-fn key_of(img: &[u8], n: u32, i: NodeIndex) -> Key
-    ensures { λ r. ⌜ r ≡ keyOf (words (now (img .entry))) i ⌝ }
-{
-    let at = record_at(Arena::Nodes { nodes: n }, i.0) + 4;
-    Key {
-        high: words::wide(img, at + 2),
-        low: words::wide(img, at),
-    }
-}
+ghost use Rattle.lookup.specs.Ends.{endEntry, smallestOf, largestOf};
 
 fn end_entry(img: &[u8], m: u32, n: u32, right: bool) -> Entry
     ensures { λ r. ⌜ r ≡ endEntry m n (imageOf (now (img .entry))) right ⌝ }
@@ -32,7 +17,7 @@ fn end_entry(img: &[u8], m: u32, n: u32, right: bool) -> Entry
         Opened::Good(h) => {
             let found = stop_target(img, n, find_end(img, h, right));
             match found {
-                Target::At(i, _, v) => Entry::Is(key_of(img, n, i), v),
+                Target::At(i, _, v) => Entry::Is(key_of(img, i), v),
                 Target::No(r) => Entry::Refused(r),
             }
         }

@@ -1,7 +1,8 @@
 -- Where the two arenas of an image stand: document 01, "The image, in 32-bit words". The nodes' header is words 4 to 7, node 1 begins at word 8 and a node has
 -- 12 words; the values' header is the four words behind the nodes, and a value record has 8 words.
 use mathlib.Core.Bool.{Bool, _&&_}
-use Prim.Native.Nat.{ℕ, _+_, _-_, _*_}
+use Prim.Native.Nat.{ℕ, _+_, _-_, _*_, _≤_}
+use native.Mathlib.Omega.{arith}
 use lib.Dec.{leb}
 use Rattle.node_allocator.specs.declared.Arena.{Arena}
 use Rattle.node_allocator.specs.declared.Arena.the-variants.{Nodes, Values}
@@ -35,6 +36,11 @@ capacityOf (Values n m) = m
 unfoldable pub widthOf : Arena → ℕ
 widthOf (Nodes n) = 12
 widthOf (Values n m) = 8
+
+pub width-most : (a : Arena) → widthOf a ≤ 12
+unfolding widthOf
+width-most (Nodes n) = omega arith
+width-most (Values n m) = omega arith
 
 -- the four registers stand first in a record
 abbrev pub registerOf : Field → ℕ

@@ -59,7 +59,8 @@ pub fn record_at(a: Arena, i: u32) -> usize
     }
 }
 
-fn capacity(a: Arena) -> u32
+// How many records an arena has.
+pub fn capacity(a: Arena) -> u32
     ensures { λ r. ⌜ r ≡ capacityOf a ⌝ }
 {
     match a {
@@ -69,7 +70,7 @@ fn capacity(a: Arena) -> u32
 }
 
 // How many words a record has.
-fn width(a: Arena) -> usize
+pub fn width(a: Arena) -> usize
     ensures { λ r. ⌜ r ≡ widthOf a ⌝ }
 {
     match a {

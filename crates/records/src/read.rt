@@ -1,4 +1,4 @@
-// The header, a node and a value record, each read as a whole.
+// The header, a node and a value record, each read as a whole; and a node's key by itself.
 use crate::Header;
 use crate::Node;
 use crate::NodeIndex;
@@ -11,6 +11,7 @@ ghost use mathlib.Core.Path.{_≡_};
 ghost use Prim.Native.Nat.{_+_, _*_, _<_, _≤_};
 ghost use lib.ListN.{length};
 ghost use Rattle.words.specs.Words.{words};
+ghost use Rattle.node_allocator.specs.Layout.{nodeAt};
 ghost use Rattle.node_allocator.specs.Steps.{countsAt};
 ghost use Rattle.records.specs.Records.{keyAt, headerOf, nodeOf, valueOf, recordFrom, valueRecordOf};
 
@@ -64,6 +65,25 @@ pub fn node_in(img: &[u8], i: NodeIndex) -> Node
         key: key_in(img, b + 4),
         prefix: words::wide_in(img, b + 8),
         padding: words::wide_in(img, b + 10),
+    }
+}
+
+// The first word of a node.
+pub fn node_at(i: NodeIndex) -> usize
+    ensures { λ r. ⌜ (r ≡ nodeAt (i .0)) × (r < 68719476736) ⌝ }
+{
+    let end = 12 * (i.0 as usize);
+    if end < 4 { 0 } else { end - 4 }
+}
+
+// The key of a node, at any index; past the end each word is 0.
+pub fn key_of(img: &[u8], i: NodeIndex) -> Key
+    ensures { λ r. ⌜ r ≡ nodeOf (words (now (img .entry))) (i .0) .key ⌝ }
+{
+    let at = node_at(i) + 4;
+    Key {
+        high: words::wide(img, at + 2),
+        low: words::wide(img, at),
     }
 }
 

@@ -5,21 +5,13 @@ use records::Content;
 use records::NodeIndex;
 use records::Value;
 use records::ValueIndex;
+use records::read::key_of;
+use records::read::node_at;
 use records::read::value_record;
 ghost use mathlib.Core.Path.{_≡_};
-ghost use Prim.Native.Nat.{_<_};
 ghost use Rattle.words.specs.Words.{words};
-ghost use Rattle.node_allocator.specs.Layout.{nodeAt};
 ghost use Rattle.records.specs.Records.{nodeOf, contentOf, valueRecordOf};
 ghost use Rattle.remove_steps.specs.Steps.{siblingOf};
-
-// The first word of a node.
-fn node_at(i: NodeIndex) -> usize
-    ensures { λ r. ⌜ (r ≡ nodeAt (i .0)) × (r < 68719476736) ⌝ }
-{
-    let end = 12 * (i.0 as usize);
-    if end < 4 { 0 } else { end - 4 }
-}
 
 pub fn get_left(img: &[u8], i: NodeIndex) -> NodeIndex
     ensures { λ r. ⌜ r ≡ nodeOf (words (now (img .entry))) (i .0) .left ⌝ }
@@ -57,13 +49,8 @@ pub fn get_node(img: &[u8], i: NodeIndex) -> Content
     ensures { λ r. ⌜ r ≡ contentOf (nodeOf (words (now (img .entry))) (i .0)) ⌝ }
 {
     let b = node_at(i);
-    let k = b + 4;
-    let key = Key {
-        high: words::wide(img, k + 2),
-        low: words::wide(img, k),
-    };
     Content {
-        key,
+        key: key_of(img, i),
         prefix: words::wide(img, b + 8),
         padding: words::wide(img, b + 10),
     }

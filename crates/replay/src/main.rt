@@ -86,15 +86,6 @@ fn entry(a: Entry) -> Outcome {
     }
 }
 
-// Makes memory blank.
-fn blank(img: &mut [u8]) {
-    let mut k: usize = 0;
-    while k < img.len() {
-        img[k] = 0;
-        k += 1;
-    }
-}
-
 // A call that reads.
 fn ask(letter: u8, img: &[u8], m: u32, n: u32, key: Key) -> Outcome {
     match letter {
@@ -113,7 +104,7 @@ fn ask(letter: u8, img: &[u8], m: u32, n: u32, key: Key) -> Outcome {
 fn make(letter: u8, img: &mut [u8], m: u32, n: u32, key: Key, v: Value) -> Outcome {
     match letter {
         b's' => {
-            blank(img);
+            words::clear(img);
             done(lookup::start::start(img, m, n))
         }
         b'i' => place(insert::insert(img, m, n, key, v)),

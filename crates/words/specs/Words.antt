@@ -59,7 +59,7 @@ words-kept bytes k v h = set-out (words bytes) k v (omega (arith, words-length b
 -- ---- a store
 
 -- four bytes stored at a word's place are one word stored
-pub words-set : (bytes : List ℕ) (k a b c d : ℕ) → 4 * k + 4 ≤ length bytes
+words-set : (bytes : List ℕ) (k a b c d : ℕ) → 4 * k + 4 ≤ length bytes
     → words (set (set (set (set bytes (4 * k) a) (4 * k + 1) b) (4 * k + 2) c) (4 * k + 3) d) ≡ set (words bytes) k (wordOf a b c d)
 unfolding words
 words-set [] k a b c d h = refl
@@ -70,8 +70,17 @@ words-set (x ∷ y ∷ z ∷ w ∷ bytes) zero a b c d h = refl
 words-set (x ∷ y ∷ z ∷ w ∷ bytes) (suc k) a b c d h =
     rw (next k 3, next k 2, next k 1, first k) (ap (λ ws. wordOf x y z w ∷ ws) (words-set bytes k a b c d (omega arith)))
 
-pub word-bytes : (v : ℕ) → v < 2 ^ 32 → wordOf (v % 256) (v / 256 % 256) (v / 65536 % 256) (v / 16777216) ≡ v
+word-bytes : (v : ℕ) → v < 2 ^ 32 → wordOf (v % 256) (v / 256 % 256) (v / 65536 % 256) (v / 16777216) ≡ v
 word-bytes v h = omega arith
+
+-- the four bytes of a word from a byte's place on, lowest first
+unfoldable pub putWord : List ℕ → ℕ → ℕ → List ℕ
+putWord bytes at v =
+    set (set (set (set bytes at (v % 256)) (at + 1) (v / 256 % 256)) (at + 2) (v / 65536 % 256)) (at + 3) (v / 16777216)
+
+pub words-put : (bytes : List ℕ) (k v : ℕ) → 4 * k + 4 ≤ length bytes → v < 2 ^ 32 → words (putWord bytes (4 * k) v) ≡ set (words bytes) k v
+unfolding putWord
+words-put bytes k v h l = words-set bytes k _ _ _ _ h ∙ ap (set (words bytes) k) (word-bytes v l)
 
 -- what a store leaves: the word itself where its place lies inside, every other word, and the number of words
 pub record Stored (before : List ℕ) (k v : ℕ) (after : List ℕ) : Type 0 where

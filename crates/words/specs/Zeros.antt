@@ -1,12 +1,14 @@
--- A run of words that are all 0: document 01's never-used records ("twelve zero words", "eight zero words") and blank memory.
+-- A run of words that are all 0: document 01's never-used records ("twelve zero words", "eight zero words") and blank memory. And a buffer whose words become 0 one by one.
 use mathlib.Core.Path.{_≡_, refl, sym, ap, _∙_}
-use mathlib.Core.List.{List}
+use mathlib.Core.List.{List, [], _∷_, _++_}
 use mathlib.Core.Logic.{_↔_, _≢_, ⊎-elim}
 use mathlib.Core.Bool.{Bool, true, false, _&&_}
 use Prim.Native.Nat.{ℕ, zero, suc, _+_, _-_, _<_, _≤_}
 use native.Mathlib.Omega.{arith}
 use native.Mathlib.Nat.{eq-or-lt-of-le}
-use lib.ListN.{length, getD, List·getD-eq-default}
+use native.Mathlib.Numerals.{add-one}
+use lib.ListN.{length, getD, take, set, replicate, replicate-append-replicate, List·getD-eq-default}
+use lib.Seq.{take-suc-set, take-all}
 use lib.Dec.{eqb}
 use Rattle.words.specs.Tests.{and-l, and-r}
 use borrow.Author.Tests.{eq-eqb, ne-eqb, eqb-true}
@@ -63,3 +65,13 @@ all ws k (suc many) f =
 
 pub zeros-exact : (ws : List ℕ) (k many : ℕ) → (zerosAt ws k many ≡ true) ↔ Zeros ws k many
 zeros-exact ws k many = (each ws k many, all ws k many)
+
+-- ---- cleared word by word
+
+pub clear-more : (ws : List ℕ) (i : ℕ) → i < length ws → take i ws ≡ replicate i 0 → take (i + 1) (set ws i 0) ≡ replicate (i + 1) 0
+clear-more ws i l e =
+    let one : _≡_ {A = List ℕ} (replicate i 0 ++ (0 ∷ [])) (replicate (i + 1) 0) = replicate-append-replicate i 1 0 in
+    rw (← one, add-one, take-suc-set ws i 0 l, e)
+
+pub clear-end : (ws : List ℕ) (i many : ℕ) → length ws ≡ i → i ≡ many → take i ws ≡ replicate i 0 → ws ≡ replicate many 0
+clear-end ws i many all-done same e = sym (take-all i ws (omega arith)) ∙ e ∙ ap (λ k. replicate k 0) same

@@ -1,12 +1,12 @@
 // A lent buffer of bytes, read and written as 32-bit words, lowest byte first: the image, the scratch and the outputs of the map.
 //
-// Every contract speaks of the buffer's words, `words (now ..)`, and of nothing else. Past the last word a read gives 0 and a
-// store does nothing, so that no caller carries a bound; the two functions whose names end in `_in` test no place and
-// ask the caller to know that it lies inside.
+// Every contract but that of `put` speaks of the buffer's words, `words (now ..)`, and of nothing else; `put` is told a
+// byte's place and speaks of bytes. Past the last word a read gives 0 and a store does nothing, so that no caller carries a
+// bound; `put` and the two functions whose names end in `_in` test no place and ask the caller to know that it lies inside.
 ghost use mathlib.Core.Path.{_≡_};
 ghost use Prim.Native.Nat.{_+_, _*_, _<_, _≤_};
-ghost use lib.ListN.{length, getD, set};
-ghost use Rattle.words.specs.Words.{words};
+ghost use lib.ListN.{length, getD, set, replicate};
+ghost use Rattle.words.specs.Words.{words, putWord};
 ghost use Rattle.words.specs.Wide.{wideAt, setWide};
 ghost use Rattle.words.specs.Zeros.{zerosAt};
 
@@ -28,16 +28,22 @@ fn load(bytes: &[u8], at: usize) -> u32
         + widened(bytes[p + 3]) * 16777216
 }
 
-// The four bytes of a word are stored: one store.
+// The four bytes of a word from a byte's place on, lowest first: one store.
+pub fn put(bytes: &mut [u8], at: usize, v: u32)
+    requires { ⌜ at + 4 ≤ length (now bytes) ⌝ }
+    ensures { λ _. ⌜ now (bytes .exit) ≡ putWord (now (bytes .entry)) at v ⌝ }
+{
+    bytes[at] = (v % 256) as u8;
+    bytes[at + 1] = (v / 256 % 256) as u8;
+    bytes[at + 2] = (v / 65536 % 256) as u8;
+    bytes[at + 3] = (v / 16777216) as u8;
+}
+
 fn store(bytes: &mut [u8], at: usize, v: u32)
     requires { ⌜ 4 * at + 4 ≤ length (now bytes) ⌝ }
     ensures { λ _. ⌜ words (now (bytes .exit)) ≡ set (words (now (bytes .entry))) at v ⌝ }
 {
-    let p = 4 * at;
-    bytes[p] = (v % 256) as u8;
-    bytes[p + 1] = (v / 256 % 256) as u8;
-    bytes[p + 2] = (v / 65536 % 256) as u8;
-    bytes[p + 3] = (v / 16777216) as u8;
+    put(bytes, 4 * at, v);
 }
 
 // How many whole words the buffer has.
@@ -125,4 +131,15 @@ pub fn zeros(bytes: &[u8], at: usize, many: usize) -> bool
         left -= 1;
     }
     true
+}
+
+// Every word becomes 0.
+pub fn clear(bytes: &mut [u8])
+    ensures { λ _. ⌜ words (now (bytes .exit)) ≡ replicate (length (words (now (bytes .entry)))) 0 ⌝ }
+{
+    let mut i = 0;
+    while i < bytes.len() / 4 {
+        store(bytes, i, 0);
+        i += 1;
+    }
 }

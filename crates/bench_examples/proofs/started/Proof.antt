@@ -7,8 +7,8 @@ use borrow.Author.Needs.{needs}
 use Rattle.bench_examples.proofs.started.Statement.{statement}
 use Rattle.bench_examples.proofs.started.Tie as tie
 
-blank-requires : tie.Need-blank-requires
-blank-requires c κs = search needs
+clear-requires : tie.Need-clear-requires
+clear-requires c κs = search needs
 
 mul-if2 : tie.Need-mul-if2
 mul-if2 c = search needs
@@ -50,7 +50,7 @@ pub started-spec : {M : Type 1} → statement M
 started-spec =
     tie.close
     (tie.spec
-    blank-requires
+    clear-requires
     mul-if2
     mul-start
     slice-relend-prefix-start

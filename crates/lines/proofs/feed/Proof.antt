@@ -21,11 +21,29 @@ sub-piece c = search needs
 piece-requires : tie.Need-piece-requires Inv-loop μ-loop
 piece-requires c κs = search needs
 
+add-until : tie.Need-add-until Inv-loop μ-loop
+add-until c = search needs
+
+sub-copy : tie.Need-sub-copy Inv-loop μ-loop
+sub-copy c = search needs
+
+part-copy-start : tie.Need-part-copy-start Inv-loop μ-loop
+part-copy-start c = search needs
+
+part-copy-end : tie.Need-part-copy-end Inv-loop μ-loop
+part-copy-end c = search needs
+
+sub-copy-2 : tie.Need-sub-copy-2 Inv-loop μ-loop
+sub-copy-2 c = search needs
+
+part-copy-start-2 : tie.Need-part-copy-start-2 Inv-loop μ-loop
+part-copy-start-2 c = search needs
+
+part-copy-end-2 : tie.Need-part-copy-end-2 Inv-loop μ-loop
+part-copy-end-2 c = search needs
+
 copy-requires : tie.Need-copy-requires Inv-loop μ-loop
 copy-requires c κs = search needs
-
-add-from : tie.Need-add-from Inv-loop μ-loop
-add-from c = search needs
 
 add-end : tie.Need-add-end Inv-loop μ-loop
 add-end c = search needs
@@ -66,8 +84,14 @@ feed-spec =
     loop-holds
     sub-piece
     piece-requires
+    add-until
+    sub-copy
+    part-copy-start
+    part-copy-end
+    sub-copy-2
+    part-copy-start-2
+    part-copy-end-2
     copy-requires
-    add-from
     add-end
     answer-lines-requires
     keep-requires

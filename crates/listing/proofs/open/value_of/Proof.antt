@@ -1,12 +1,11 @@
 -- `open::value_of` meets its contract. Assumes nothing.
-use Rattle.node_allocator.specs.Layout.{recordAt}
 use Rattle.records.specs.Records.{nodeOf}
 use borrow.Author.Needs.{needs}
 use Rattle.listing.proofs.open.value_of.Statement.{statement}
 use Rattle.listing.proofs.open.value_of.Tie as tie
 
-record-at-requires : tie.Need-record-at-requires
-record-at-requires c κs = search needs
+node-at-requires : tie.Need-node-at-requires
+node-at-requires c κs = search needs
 
 add-word : tie.Need-add-word
 add-word c = search needs
@@ -15,8 +14,8 @@ word-requires : tie.Need-word-requires
 word-requires c κs = search needs
 
 returns : tie.Need-returns
-unfolding recordAt nodeOf
+unfolding nodeOf
 returns c = cc
 
 pub value-of-spec : {M : Type 1} → statement M
-value-of-spec = tie.close (tie.spec record-at-requires add-word word-requires returns)
+value-of-spec = tie.close (tie.spec node-at-requires add-word word-requires returns)

@@ -7,8 +7,8 @@ use Rattle.remove_steps.proofs.read.get_node.Tie as tie
 node-at-requires : tie.Need-node-at-requires
 node-at-requires c κs = search needs
 
-add-k : tie.Need-add-k
-add-k c = search needs
+key-of-requires : tie.Need-key-of-requires
+key-of-requires c κs = search needs
 
 add-wide : tie.Need-add-wide
 add-wide c = search needs
@@ -16,20 +16,11 @@ add-wide c = search needs
 wide-requires : tie.Need-wide-requires
 wide-requires c κs = search needs
 
-wide-requires-2 : tie.Need-wide-requires-2
-wide-requires-2 c κs = search needs
-
 add-wide-2 : tie.Need-add-wide-2
 add-wide-2 c = search needs
 
-wide-requires-3 : tie.Need-wide-requires-3
-wide-requires-3 c κs = search needs
-
-add-wide-3 : tie.Need-add-wide-3
-add-wide-3 c = search needs
-
-wide-requires-4 : tie.Need-wide-requires-4
-wide-requires-4 c κs = search needs
+wide-requires-2 : tie.Need-wide-requires-2
+wide-requires-2 c κs = search needs
 
 returns : tie.Need-returns
 unfolding nodeOf
@@ -40,12 +31,9 @@ get-node-spec =
     tie.close
     (tie.spec
     node-at-requires
-    add-k
+    key-of-requires
     add-wide
     wide-requires
-    wide-requires-2
     add-wide-2
-    wide-requires-3
-    add-wide-3
-    wide-requires-4
+    wide-requires-2
     returns)
