@@ -1,10 +1,11 @@
 -- What the rules of an image depend on: its header, its nodes, its value records and its unused words. An image in which these stay as they were keeps every rule.
-use mathlib.Core.Path.{_≡_, refl, sym, ap, _∙_}
+use mathlib.Core.Path.{_≡_, refl, sym, ap, subst, _∙_}
 use mathlib.Core.List.{List, [], _∷_}
 use mathlib.Core.Logic.{_≢_, _⊎_, inl, inr}
 use mathlib.Core.Option.{Option, none, some}
 use Prim.Native.Nat.{ℕ, _+_, _-_, _*_, _≤_, _<_}
 use native.Mathlib.Omega.{arith}
+use Rattle.node_allocator.specs.declared.Field.the-variants as field
 use Rattle.records.specs.declared.Header.{Header}
 use Rattle.records.specs.declared.Node.{Node}
 use Rattle.records.specs.declared.ValueRecord.{ValueRecord}
@@ -12,7 +13,9 @@ use Rattle.records.specs.Records.{nodeOf, valueRecordOf}
 use Rattle.trees.specs.Tree.{Tree, leaf, inner, top}
 use Rattle.trees.specs.Lists.{All}
 use Rattle.trees.specs.Nodes.{In}
+use Rattle.views.specs.Nodes.{withField}
 use Rattle.accepted.specs.Rules.{Holds, Chain}
+use Rattle.accepted.specs.Held.{once}
 
 -- a tree is held where its nodes' records stay, and the bumps do not fall
 pub holds-kept : (h g : Header) (ws vs : List ℕ) → h .nodes .bump ≤ g .nodes .bump → h .values .bump ≤ g .values .bump
@@ -30,6 +33,33 @@ holds-kept h g ws vs p q parent low (inner i key c l r) e k =
       two = k .two;
       on-left = holds-kept h g ws vs p q i (c + 1) l (λ x z. e x (inr (inl z))) (k .on-left);
       on-right = holds-kept h g ws vs p q i (c + 1) r (λ x z. e x (inr (inr z))) (k .on-right);
+    }
+
+-- and where its top has another Parent, and no other node changes
+pub holds-moved : (h g : Header) (ws vs : List ℕ) → h .nodes .bump ≤ g .nodes .bump → h .values .bump ≤ g .values .bump → (parent parent′ low : ℕ) (t : Tree)
+    → nodeOf vs (top t) ≡ withField field.Parent parent′ (nodeOf ws (top t)) → ((y : ℕ) → In y t → y ≢ top t → nodeOf vs y ≡ nodeOf ws y)
+    → Holds h ws parent low t → Holds g vs parent′ low t
+unfolding Holds
+holds-moved h g ws vs b c parent parent′ low (leaf i key v) e kept k =
+    record {
+      index-some = k .index-some;
+      index-used = omega (arith, k .index-used);
+      here = e ∙ ap (withField field.Parent parent′) (k .here);
+      rises = k .rises;
+      value-some = k .value-some;
+      value-used = omega (arith, k .value-used);
+    }
+holds-moved h g ws vs b c parent parent′ low (inner i key p l r) e kept k =
+    let o = once h ws parent low (inner i key p l r) k in
+    record {
+      index-some = k .index-some;
+      index-used = omega (arith, k .index-used);
+      here = e ∙ ap (withField field.Parent parent′) (k .here);
+      rises = k .rises;
+      short = k .short;
+      two = k .two;
+      on-left = holds-kept h g ws vs b c i (p + 1) l (λ y z. kept y (inr (inl z)) (λ q. o .0 (subst (λ x. In x l) q z))) (k .on-left);
+      on-right = holds-kept h g ws vs b c i (p + 1) r (λ y z. kept y (inr (inr z)) (λ q. o .1 (subst (λ x. In x r) q z))) (k .on-right);
     }
 
 -- a chain where its records stay free and name the same

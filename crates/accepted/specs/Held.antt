@@ -1,7 +1,7 @@
 -- A tree that an image holds: every node of it passes its test, no node stands at two places, the words determine it, and its entries name used value records.
 use mathlib.Core.Path.{_≡_, refl, sym, ap, subst, subst₂, _∙_}
 use mathlib.Core.List.{List}
-use mathlib.Core.Logic.{_≢_, _⊎_, inl, inr}
+use mathlib.Core.Logic.{_≢_, _⊎_, inl, inr, ⊎-elim}
 use mathlib.Core.Option.{Option, none, some}
 use mathlib.Core.Bool.{Bool, true, false, cond, _&&_, _||_, not, Bool·beq}
 use Prim.Native.Nat.{ℕ, suc, _+_, _-_, _*_, _≤_, _<_}
@@ -117,6 +117,9 @@ module _ (h : Header) (ws : List ℕ) where
   top-parent parent low (leaf i key v) k = rw (k .here)
   top-parent parent low (inner i key p l r) k = rw (k .here)
 
+  parent-of : (parent low : ℕ) (t : Tree) (x : ℕ) → Holds h ws parent low t → x ≡ top t → nodeOf ws x .parent .0 ≡ parent
+  parent-of parent low t x k e = rw (e, top-parent parent low t k)
+
   pub in-range : (parent low : ℕ) (t : Tree) (x : ℕ) → Holds h ws parent low t → In x t → (1 ≤ x) × (x < h .nodes .bump)
   unfolding Holds
   in-range parent low (leaf i key v) x k q = rw q (k .index-some, k .index-used)
@@ -129,40 +132,27 @@ module _ (h : Header) (ws : List ℕ) where
   unfolding Holds
   up parent low (leaf i key v) x k q = inl q
   up parent low (inner i key p l r) x k (inl q) = inl q
-  up parent low (inner i key p l r) x k (inr (inl q)) = go (up i (p + 1) l x (k .on-left) q)
+  up parent low (inner i key p l r) x k (inr (inl q)) = inr (⊎-elim (λ e. inl (parent-of i (p + 1) l x (k .on-left) e)) (λ d. inr (inl d)) (up i (p + 1) l x (k .on-left) q))
+  up parent low (inner i key p l r) x k (inr (inr q)) = inr (⊎-elim (λ e. inl (parent-of i (p + 1) r x (k .on-right) e)) (λ d. inr (inr d)) (up i (p + 1) r x (k .on-right) q))
+
+  -- one step up: where the top of s is a node of t, its Parent i is one too, or the two tops are one
+  meet-above : (i low : ℕ) (s : Tree) (b low′ : ℕ) (t : Tree) → Holds h ws i low s → Holds h ws b low′ t → In (top s) t ⊎ In (top t) s → In i t ⊎ In (top t) s
+  meet-above i low s b low′ t k g (inr d) = inr d
+  meet-above i low s b low′ t k g (inl d) = through (up b low′ t (top s) g d)
     where
-      go : (x ≡ top l) ⊎ In (nodeOf ws x .parent .0) l → (x ≡ i) ⊎ In (nodeOf ws x .parent .0) (inner i key p l r)
-      go (inl e) = inr (inl (rw (e, top-parent i (p + 1) l (k .on-left))))
-      go (inr q) = inr (inr (inl q))
-  up parent low (inner i key p l r) x k (inr (inr q)) = go (up i (p + 1) r x (k .on-right) q)
-    where
-      go : (x ≡ top r) ⊎ In (nodeOf ws x .parent .0) r → (x ≡ i) ⊎ In (nodeOf ws x .parent .0) (inner i key p l r)
-      go (inl e) = inr (inl (rw (e, top-parent i (p + 1) r (k .on-right))))
-      go (inr q) = inr (inr (inr q))
+      through : (top s ≡ top t) ⊎ In (nodeOf ws (top s) .parent .0) t → In i t ⊎ In (top t) s
+      through (inl e) = inr (subst (λ y. In y s) e (in-top s))
+      through (inr d) = inl (subst (λ y. In y t) (top-parent i low s k) d)
 
   -- of two trees with a node in common one's top is a node of the other
   meet : (a low : ℕ) (s : Tree) (b low′ : ℕ) (t : Tree) (x : ℕ) → Holds h ws a low s → Holds h ws b low′ t → In x s → In x t → In (top s) t ⊎ In (top t) s
   unfolding Holds
   meet a low (leaf i key v) b low′ t x k g q z = inl (subst (λ y. In y t) q z)
   meet a low (inner i key p l r) b low′ t x k g (inl q) z = inl (subst (λ y. In y t) q z)
-  meet a low (inner i key p l r) b low′ t x k g (inr (inl q)) z = go (meet i (p + 1) l b low′ t x (k .on-left) g q z)
-    where
-      through : (top l ≡ top t) ⊎ In (nodeOf ws (top l) .parent .0) t → In i t ⊎ In (top t) (inner i key p l r)
-      through (inl e) = inr (inr (inl (subst (λ y. In y l) e (in-top l))))
-      through (inr d) = inl (subst (λ y. In y t) (top-parent i (p + 1) l (k .on-left)) d)
-
-      go : In (top l) t ⊎ In (top t) l → In i t ⊎ In (top t) (inner i key p l r)
-      go (inl d) = through (up b low′ t (top l) g d)
-      go (inr d) = inr (inr (inl d))
-  meet a low (inner i key p l r) b low′ t x k g (inr (inr q)) z = go (meet i (p + 1) r b low′ t x (k .on-right) g q z)
-    where
-      through : (top r ≡ top t) ⊎ In (nodeOf ws (top r) .parent .0) t → In i t ⊎ In (top t) (inner i key p l r)
-      through (inl e) = inr (inr (inr (subst (λ y. In y r) e (in-top r))))
-      through (inr d) = inl (subst (λ y. In y t) (top-parent i (p + 1) r (k .on-right)) d)
-
-      go : In (top r) t ⊎ In (top t) r → In i t ⊎ In (top t) (inner i key p l r)
-      go (inl d) = through (up b low′ t (top r) g d)
-      go (inr d) = inr (inr (inr d))
+  meet a low (inner i key p l r) b low′ t x k g (inr (inl q)) z =
+      ⊎-elim inl (λ d. inr (inr (inl d))) (meet-above i (p + 1) l b low′ t (k .on-left) g (meet i (p + 1) l b low′ t x (k .on-left) g q z))
+  meet a low (inner i key p l r) b low′ t x k g (inr (inr q)) z =
+      ⊎-elim inl (λ d. inr (inr (inr d))) (meet-above i (p + 1) r b low′ t (k .on-right) g (meet i (p + 1) r b low′ t x (k .on-right) g q z))
 
   -- a node is not below itself: prefix lengths rise
   not-below : (parent i key-prefix : ℕ) (t : Tree) → nodeOf ws i .prefix ≡ key-prefix → Holds h ws i (key-prefix + 1) t → In i t → ⊥

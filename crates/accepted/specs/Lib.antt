@@ -4,4 +4,5 @@ pub mod Accepted
 pub mod Tests
 pub mod Held
 pub mod Frame
+pub mod Forks
 pub mod Apart

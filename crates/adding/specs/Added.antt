@@ -2,11 +2,9 @@
 use mathlib.Core.Path.{_≡_, refl, sym, ap, subst, _∙_}
 use mathlib.Core.List.{List, [], _∷_}
 use mathlib.Core.Logic.{_≢_, inr}
-use mathlib.Core.Bool.{Bool, cond}
 use Prim.Native.Nat.{ℕ, _+_, _%_, _^_, _≤_, _<_}
 use native.Mathlib.Omega.{arith}
 use lib.ListN.{length, getD}
-use borrow.Author.Tests.{ne-eqb, eq-eqb}
 use Rattle.words.specs.Wide.{wideAt}
 use Rattle.node_allocator.specs.declared.Arena.{Arena}
 use Rattle.node_allocator.specs.declared.Arena.the-variants.{Nodes, Values}
@@ -19,7 +17,7 @@ use Rattle.arena_laws.specs.Laws.{register-word}
 use Rattle.arena_laws.specs.Taken.{add-length, add-others, add-head, add-fresh, add-freed}
 use Rattle.records.specs.declared.Node.{Node}
 use Rattle.records.specs.Records.{headerOf, nodeOf, valueRecordOf}
-use Rattle.views.specs.Nodes.{Same, withField, changed, nodes-lie, node-added}
+use Rattle.views.specs.Nodes.{Same, withField, changed, changed-there, changed-other, nodes-lie, node-added}
 use Rattle.views.specs.Values.{value-node-added}
 use Rattle.views.specs.Header.{node-added-apart}
 use Rattle.views.specs.Small.{small-added}
@@ -139,10 +137,10 @@ module _ {m n : ℕ} {ws xs ys : List ℕ} (a : Arenas m n ws xs ys) (room : hea
       ∙ ap (λ (c : Counts). changed (c .head) (withField field.Left 0) y (nodeOf ws y)) (sym (nodes-are n ws))
 
   node-other : (y : ℕ) → 1 ≤ y → y ≢ head → nodeOf (addImage (Nodes n) ws) y ≡ nodeOf ws y
-  node-other y l d = node-after y l ∙ ap (λ (b : Bool). cond b (withField field.Left 0 (nodeOf ws y)) (nodeOf ws y)) (ne-eqb y head d)
+  node-other y l d = node-after y l ∙ changed-other head (withField field.Left 0) y (nodeOf ws y) d
 
   node-there : nodeOf (addImage (Nodes n) ws) head ≡ withField field.Left 0 (nodeOf ws head)
-  node-there = node-after head (inside .low) ∙ ap (λ (b : Bool). cond b (withField field.Left 0 (nodeOf ws head)) (nodeOf ws head)) (eq-eqb head head refl)
+  node-there = node-after head (inside .low) ∙ changed-there head (withField field.Left 0) (nodeOf ws head)
 
   value-after : (y : ℕ) → 1 ≤ y → valueRecordOf n (addImage (Nodes n) ws) y ≡ valueRecordOf n ws y
   unfolding capacityOf

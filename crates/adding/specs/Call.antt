@@ -25,7 +25,7 @@ use Rattle.insert.specs.Steps.{planImage, planPlace, openedPlan, insertOf, inse
 use Rattle.lookup.specs.Get.{addrOf}
 use Rattle.trees.specs.Lists.{All}
 use Rattle.trees.specs.Tree.{Tree, top, entries, Ordered, ascending}
-use Rattle.trees.specs.Lookup.{find, held, lookup, valueOf, lookup-find}
+use Rattle.trees.specs.Lookup.{find, find-all, held, is-some, lookup, valueOf, lookup-find}
 use Rattle.trees.specs.Insert.{put}
 use Rattle.trees.specs.Map.{Map, listOf, lookupIn, OrderedMap, map-ascending}
 use Rattle.trees.specs.Values.{Numbered}
@@ -34,10 +34,10 @@ use Rattle.views.specs.Small.{FitsValue}
 use Rattle.accepted.specs.Rules.{Holds, Live}
 use Rattle.accepted.specs.Held.{entries-used}
 use Rattle.accepted.specs.Accepted.{Accepted, HoldsMap}
-use Rattle.finding.specs.Answers.{valued, listed, find-all, placeFrom, addr-agrees}
+use Rattle.finding.specs.Answers.{valued, listed, held-valued, valued-rising, placeFrom, addr-agrees}
 use Rattle.setting.specs.Write.{update, value-accepted, value-tree, value-listed}
 use Rattle.adding.specs.Planned.{arenas, sized, plan-full, plan-first, plan-replace, plan-split}
-use Rattle.adding.specs.Entered.{enter, enter-held, enter-either, valued-rising, valued-found}
+use Rattle.adding.specs.Entered.{enter, enter-held, enter-either}
 use Rattle.adding.specs.First.{first-agrees}
 use Rattle.adding.specs.Splitting.{split-agrees}
 
@@ -90,7 +90,7 @@ module _ {m n : ℕ} {ws : List ℕ} (a : Accepted m n ws) (key : Key) (fits : F
     replaced-list =
         ap (λ (u : Map). valued n (setValue m n ws (e .1) v) (listOf u)) tree-same
         ∙ value-listed a (e .1) (inside .0) (inside .1) v fits-value key (entries t) different at-record
-        ∙ sym (enter-held key v (valued n ws (entries t)) (valued-rising n ws (entries t) (ascending t ordered)) (valued-found n ws key (entries t) (e .1) at-record))
+        ∙ sym (enter-held key v (valued n ws (entries t)) (valued-rising n ws (entries t) (ascending t ordered)) (held-valued n ws key (entries t) ∙ ap is-some at-record))
         ∙ ap (λ (u : Map). enter key v (valued n ws (listOf u))) (sym is)
 
     replace-enters : Enters (place.At (record { 0 = e .0 })) (setValue m n ws (e .1) v)

@@ -14,12 +14,12 @@ use Rattle.keys.specs.Number.{numberOf}
 use Rattle.records.specs.declared.Value.{Value}
 use Rattle.records.specs.Records.{valueRecordOf}
 use Rattle.trees.specs.Keys.{shared, bit, same, chosen, unequal}
-use Rattle.trees.specs.Lists.{All, Pairs, all-map}
-use Rattle.trees.specs.Tree.{Tree, leaf, inner, fork, top, keyOf, relabel}
-use Rattle.trees.specs.Lookup.{find, held, held-none, lookup}
+use Rattle.trees.specs.Lists.{All, all-map, all-both}
+use Rattle.trees.specs.Tree.{Tree, leaf, inner, fork, top, keyOf, relabel, Rising}
+use Rattle.trees.specs.Lookup.{held, held-none, lookup}
 use Rattle.trees.specs.Insert.{split, insert, put}
 use Rattle.accepted.specs.Accepted.{nodesIn, valueAtRecord}
-use Rattle.finding.specs.Answers.{valued}
+use Rattle.finding.specs.Answers.{valued, valued-kept}
 use Rattle.setting.specs.Write.{update}
 
 abbrev pub enter : {A : Type 0} → Key → A → List (Key × A) → List (Key × A)
@@ -27,9 +27,6 @@ enter key v [] = (key, v) ∷ []
 enter key v (e ∷ es) = cond (same key (e .0)) ((e .0, v) ∷ es) (cond (ltb (numberOf key) (numberOf (e .0))) ((key, v) ∷ e ∷ es) (e ∷ enter key v es))
 
 -- ---- a key that is held, and one that is not
-
-abbrev pub Rising : {A : Type 0} → List (Key × A) → Type 0
-Rising es = Pairs (λ x y. numberOf (x .0) < numberOf (y .0)) es
 
 -- a held key gets the value, and nothing else changes
 pub enter-held : {A : Type 0} (key : Key) (v : A) (es : List (Key × A)) → Rising es → held key es ≡ true → enter key v es ≡ update key v es
@@ -63,50 +60,19 @@ enter-either key v es s = go (held key es) refl
     go true e = enter-held key v es s e
     go false e = enter-new key v es e
 
--- ---- the list of an image has the keys of its entries
-
-module _ (n : ℕ) (ws : List ℕ) where
-  rising-over : (x : Key × ℕ) (es : List (Key × ℕ)) → All (λ y. numberOf (x .0) < numberOf (y .0)) es → All (λ y. numberOf (x .0) < numberOf (y .0)) (valued n ws es)
-  rising-over x [] h = tt
-  rising-over x (e ∷ es) h = (h .0, rising-over x es (h .1))
-
-  pub valued-rising : (es : List (Key × ℕ)) → Rising es → Rising (valued n ws es)
-  valued-rising [] h = tt
-  valued-rising (e ∷ es) h = (rising-over e es (h .0), valued-rising es (h .1))
-
-  pub valued-found : (key : Key) (es : List (Key × ℕ)) (j : ℕ) → find key es ≡ some j → held key (valued n ws es) ≡ true
-  valued-found key [] j e = let z : _≡_ {A = ℕ} 0 1 = cc in absurd (omega arith)
-  valued-found key (x ∷ es) j e = go (same key (x .0)) e (valued-found key es j)
-    where
-      go : (q : Bool) → cond q (some (x .1)) (find key es) ≡ some j → (find key es ≡ some j → held key (valued n ws es) ≡ true) → cond q true (held key (valued n ws es)) ≡ true
-      go true d f = refl
-      go false d f = f d
-
-  pub valued-missed : (key : Key) (es : List (Key × ℕ)) → find key es ≡ none → held key (valued n ws es) ≡ false
-  valued-missed key [] e = refl
-  valued-missed key (x ∷ es) e = go (same key (x .0)) e (valued-missed key es)
-    where
-      go : (q : Bool) → cond q (some (x .1)) (find key es) ≡ none → (find key es ≡ none → held key (valued n ws es) ≡ false) → cond q true (held key (valued n ws es)) ≡ false
-      go true d f = let z : _≡_ {A = ℕ} 0 1 = cc in absurd (omega arith)
-      go false d f = f d
-
 -- ---- the values of the entries after an insert
 
 -- the new key's record j holds v, and every other record what it held
 module _ (n : ℕ) (ws vs : List ℕ) (key : Key) (v : Value) (j : ℕ) (stored : valueRecordOf n vs j .value ≡ v) (kept : (y : ℕ) → 1 ≤ y → y ≢ j → valueRecordOf n vs y ≡ valueRecordOf n ws y) where
-  pub valued-kept : (es : List (Key × ℕ)) → All (λ e. e .1 ≢ 0) es → All (λ e. j ≢ e .1) es → valued n vs es ≡ valued n ws es
-  valued-kept [] z d = refl
-  valued-kept (e ∷ es) z d =
-      let here : valueRecordOf n vs (e .1) ≡ valueRecordOf n ws (e .1) = kept (e .1) (pos-of-ne-zero (z .0)) (λ q. d .0 (sym q)) in
-      let rest : valued n vs es ≡ valued n ws es = valued-kept es (z .1) (d .1) in
-      λ ι. (e .0, here ι .value) ∷ rest ι
+  records-kept : (es : List (Key × ℕ)) → All (λ e. e .1 ≢ 0) es → All (λ e. j ≢ e .1) es → All (λ e. valueRecordOf n vs (e .1) ≡ valueRecordOf n ws (e .1)) es
+  records-kept = all-both (λ e z d. kept (e .1) (pos-of-ne-zero z) (λ q. d (sym q)))
 
   pub valued-put : (es : List (Key × ℕ)) → All (λ e. e .1 ≢ 0) es → All (λ e. j ≢ e .1) es → valued n vs (put key j es) ≡ put key v (valued n ws es)
   valued-put [] z d = λ ι. (key, stored ι) ∷ []
-  valued-put (e ∷ es) z d = go (same key (e .0)) (ltb (numberOf key) (numberOf (e .0))) (valued-kept (e ∷ es) z d) (valued-put es (z .1) (d .1))
+  valued-put (e ∷ es) z d = go (same key (e .0)) (ltb (numberOf key) (numberOf (e .0))) (valued-kept n ws vs (e ∷ es) (records-kept (e ∷ es) z d)) (valued-put es (z .1) (d .1))
     where
       here : valueRecordOf n vs (e .1) ≡ valueRecordOf n ws (e .1)
-      here = kept (e .1) (pos-of-ne-zero (z .0)) (λ q. d .0 (sym q))
+      here = records-kept (e ∷ es) z d .0
 
       go : (q l : Bool) → valued n vs (e ∷ es) ≡ valued n ws (e ∷ es) → valued n vs (put key j es) ≡ put key v (valued n ws es)
           → valued n vs (cond q (e ∷ es) (cond l ((key, j) ∷ e ∷ es) (e ∷ put key j es)))

@@ -3,10 +3,8 @@ use mathlib.Core.Path.{_≡_, sym, ap, subst, _∙_}
 use mathlib.Core.List.{List}
 use mathlib.Core.Logic.{_≢_, inl, inr}
 use mathlib.Core.Bool.{Bool, true, false, cond}
-use Prim.Native.Nat.{ℕ, _+_, _*_, _^_, _≤_, _<_}
+use Prim.Native.Nat.{ℕ, _+_, _^_, _≤_, _<_}
 use native.Mathlib.Omega.{arith}
-use lib.ListN.{getD}
-use Rattle.words.specs.Wide.{wideAt}
 use Rattle.keys.specs.declared.Key.{Key}
 use Rattle.keys.specs.Number.{Fits, numberOf}
 use Rattle.keys.specs.Common.{bitOf}
@@ -14,7 +12,6 @@ use Rattle.node_allocator.specs.declared.Arena.the-variants.{Nodes}
 use Rattle.node_allocator.specs.declared.Counts.{Counts}
 use Rattle.node_allocator.specs.declared.Field.{Field}
 use Rattle.node_allocator.specs.declared.Field.the-variants as field
-use Rattle.node_allocator.specs.Layout.{nodeAt}
 use Rattle.node_allocator.specs.Steps.{setRegister, addIndex, addImage}
 use Rattle.records.specs.declared.Header.{Header}
 use Rattle.records.specs.declared.Node.{Node}
@@ -22,13 +19,13 @@ use Rattle.records.specs.declared.Content.{Content}
 use Rattle.records.specs.Records.{headerOf, nodeOf, contentOf, valueRecordOf}
 use Rattle.records.specs.Writes.{setContent}
 use Rattle.insert.specs.Steps.{contentFrom, copyTaken, hung, duplicated, replaced, forkedImage}
-use Rattle.views.specs.Nodes.{withField, withContent, changed}
-use Rattle.views.specs.Small.{Small, FitsContent}
+use Rattle.views.specs.Nodes.{withField, withContent, changed, changed-there, changed-other}
+use Rattle.views.specs.Small.{FitsContent, content-fits, value-fits}
 use Rattle.accepted.specs.Rules.{innerNode}
 use Rattle.adding.specs.Arenas.{behind, Used, used-still, used-other, bump-added, FreeNodeOf, nextNodeOf, Arenas}
 use Rattle.adding.specs.Stored.{Step, step-then, Named, used-after, named-after, register-step, content-step, joinedAt, hungAt, hung-step}
 use Rattle.adding.specs.Added.{TopKept, NodeAdded, node-add}
-use Rattle.adding.specs.Leaf.{changed-there, changed-other, size-added, top-then, top-same}
+use Rattle.adding.specs.Leaf.{size-added, top-then, top-same}
 
 -- ---- what each node holds afterwards
 
@@ -80,23 +77,6 @@ module _ (i : ℕ) (c : Content) (v l r : ℕ) where
   made-other y x d e g = ap (hungAt i l r y) (unmade y x d) ∙ hung-other i l r y x d e g
 
 -- ---- the steps
-
--- what a node of 32-bit words holds fits
-content-fits : (ws : List ℕ) (i : ℕ) → Small ws → FitsContent (contentOf (nodeOf ws i))
-unfolding nodeOf wideAt
-content-fits ws i s =
-    record {
-      key-fits = record { high-fits = wide (nodeAt i + 4 + 2); low-fits = wide (nodeAt i + 4) };
-      prefix-fits = wide (nodeAt i + 8);
-      padding-fits = wide (nodeAt i + 10);
-    }
-  where
-    wide : (k : ℕ) → getD ws k 0 + 4294967296 * getD ws (k + 1) 0 < 2 ^ 64
-    wide k = omega (arith, s k, s (k + 1))
-
-value-fits : (ws : List ℕ) (i : ℕ) → Small ws → nodeOf ws i .value .0 < 2 ^ 32
-unfolding nodeOf
-value-fits ws i s = s (nodeAt i + 3)
 
 module _ {m n : ℕ} {ws xs ys : List ℕ} (a : Arenas m n ws xs ys) where
   made-step : (i : ℕ) → Used (headerOf n ws .nodes .bump) xs i → (c : Content) → FitsContent c → (v : ℕ) → v < 2 ^ 32

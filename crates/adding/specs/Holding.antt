@@ -15,7 +15,7 @@ use Rattle.records.specs.Records.{nodeOf}
 use Rattle.trees.specs.Keys.{shared, bit, same, Same, test-same, unequal}
 use Rattle.trees.specs.Lists.{All, all-map}
 use Rattle.trees.specs.Tree.{Tree, leaf, inner, fork, top, keyOf, prefixOf, relabel, Ordered}
-use Rattle.trees.specs.Nodes.{In, Child, in-top, is-top, in-child, top-relabel, top-fork}
+use Rattle.trees.specs.Nodes.{In, Child, in-top, is-top, in-child, top-relabel}
 use Rattle.trees.specs.Lookup.{lookup}
 use Rattle.trees.specs.Insert.{split, insert}
 use Rattle.trees.specs.Paths.{rising}
@@ -23,7 +23,8 @@ use Rattle.trees.specs.Changes.{target, in-target, top-insert}
 use Rattle.views.specs.Nodes.{withField}
 use Rattle.accepted.specs.Rules.{Holds, leafNode, innerNode, FreeNode}
 use Rattle.accepted.specs.Held.{in-range, top-parent, Once, once}
-use Rattle.accepted.specs.Frame.{holds-kept}
+use Rattle.accepted.specs.Frame.{holds-moved}
+use Rattle.accepted.specs.Forks.{forkNode, held-fork, in-node, in-far, fork-once, fork-rebuilt}
 use Rattle.accepted.specs.Apart.{node-not-free}
 use Rattle.adding.specs.Arenas.{Used}
 
@@ -45,66 +46,7 @@ parted key a t = go (test-same key a)
     go (inl s) = absurd (unequal (same key a) (s .1) t)
     go (inr s) = s .0
 
--- what is held at an inner node, seen from its child on the side b
-record ForkHeld (h : Header) (ws : List ℕ) (parent low i : ℕ) (a : Key) (p : ℕ) (b : Bool) (near far : Tree) : Type 0 where
-  index-some : 1 ≤ i
-  index-used : i < h .nodes .bump
-  here : nodeOf ws i ≡ innerNode parent a p (cond b (top far) (top near)) (cond b (top near) (top far))
-  rises : low ≤ p
-  short : p < 128
-  two : top near ≢ top far
-  on-far : Holds h ws i (p + 1) far
-  not-near : In i near → ⊥
-  apart : (y : ℕ) → In y far → In y near → ⊥
-
-fork-held : (h : Header) (ws : List ℕ) (parent low i : ℕ) (a : Key) (p : ℕ) (b : Bool) (near far : Tree) → Holds h ws parent low (fork i a p b near far) → ForkHeld h ws parent low i a p b near far
-unfolding Holds
-fork-held h ws parent low i a p true near far k =
-    let o = once h ws parent low (inner i a p far near) k in
-    record { index-some = k .index-some; index-used = k .index-used; here = k .here; rises = k .rises; short = k .short; two = λ e. k .two (sym e); on-far = k .on-left; not-near = o .1; apart = λ y q z. o .2 y q z }
-fork-held h ws parent low i a p false near far k =
-    let o = once h ws parent low (inner i a p near far) k in
-    record { index-some = k .index-some; index-used = k .index-used; here = k .here; rises = k .rises; short = k .short; two = k .two; on-far = k .on-right; not-near = o .0; apart = λ y q z. o .2 y z q }
-
 module _ (h g : Header) (ws vs : List ℕ) (nodes : h .nodes .bump ≤ g .nodes .bump) (values : h .values .bump ≤ g .values .bump) where
-  -- a tree that hangs below another node
-  holds-moved : (parent parent′ low : ℕ) (t : Tree) → nodeOf vs (top t) ≡ withField field.Parent parent′ (nodeOf ws (top t)) → ((y : ℕ) → In y t → y ≢ top t → nodeOf vs y ≡ nodeOf ws y)
-      → Holds h ws parent low t → Holds g vs parent′ low t
-  unfolding Holds
-  holds-moved parent parent′ low (leaf i key v) e f k =
-      record {
-        index-some = k .index-some;
-        index-used = omega (arith, k .index-used);
-        here = e ∙ ap (withField field.Parent parent′) (k .here);
-        rises = k .rises;
-        value-some = k .value-some;
-        value-used = omega (arith, k .value-used);
-      }
-  holds-moved parent parent′ low (inner i key p l r) e f k =
-      record {
-        index-some = k .index-some;
-        index-used = omega (arith, k .index-used);
-        here = e ∙ ap (withField field.Parent parent′) (k .here);
-        rises = k .rises;
-        short = k .short;
-        two = k .two;
-        on-left = holds-kept h g ws vs nodes values i (p + 1) l (λ y q. f y (inr (inl q)) (λ z. apart .0 (subst (λ w. In w l) z q))) (k .on-left);
-        on-right = holds-kept h g ws vs nodes values i (p + 1) r (λ y q. f y (inr (inr q)) (λ z. apart .1 (subst (λ w. In w r) z q))) (k .on-right);
-      }
-    where
-      apart : Once h ws (inner i key p l r)
-      apart = once h ws parent low (inner i key p l r) k
-
-  -- an inner node with near on the side b
-  holds-fork : (parent low i : ℕ) (key : Key) (c : ℕ) (b : Bool) (near far : Tree) → 1 ≤ i → i < g .nodes .bump
-      → nodeOf vs i ≡ innerNode parent key c (cond b (top far) (top near)) (cond b (top near) (top far))
-      → low ≤ c → c < 128 → top near ≢ top far → Holds g vs i (c + 1) near → Holds g vs i (c + 1) far → Holds g vs parent low (fork i key c b near far)
-  unfolding Holds
-  holds-fork parent low i key c true near far s u e l m d x y =
-      record { index-some = s; index-used = u; here = e; rises = l; short = m; two = λ q. d (sym q); on-left = y; on-right = x }
-  holds-fork parent low i key c false near far s u e l m d x y =
-      record { index-some = s; index-used = u; here = e; rises = l; short = m; two = d; on-left = x; on-right = y }
-
   module _ (xs : List ℕ) (free : All (λ z. FreeNode h z (nodeOf ws z)) xs) (key : Key) (cell new copy : ℕ) (x : Tree) where
     -- the records after the split of x
     pub record SplitAt : Type 0 where
@@ -143,9 +85,9 @@ module _ (h g : Header) (ws vs : List ℕ) (nodes : h .nodes .bump ≤ g .nodes 
           rises = omega arith;
           short = k .short;
           two = k .two;
-          on-left = holds-moved i copy (p + 1) l (s .at-child (top l) (inl refl))
+          on-left = holds-moved h g ws vs nodes values i copy (p + 1) l (s .at-child (top l) (inl refl))
               (λ y q n. s .at-other y (in-used h ws xs i (p + 1) l y free (k .on-left) q) (λ e. apart .0 (subst (λ z. In z l) e q)) (only-left y q n)) (k .on-left);
-          on-right = holds-moved i copy (p + 1) r (s .at-child (top r) (inr refl))
+          on-right = holds-moved h g ws vs nodes values i copy (p + 1) r (s .at-child (top r) (inr refl))
               (λ y q n. s .at-other y (in-used h ws xs i (p + 1) r y free (k .on-right) q) (λ e. apart .1 (subst (λ z. In z r) e q)) (only-right y q n)) (k .on-right);
         }
       where
@@ -170,12 +112,16 @@ module _ (h g : Header) (ws vs : List ℕ) (nodes : h .nodes .bump ≤ g .nodes 
     holds-split : (parent low : ℕ) (x : Tree) → SplitAt xs free key cell new copy x → Holds h ws parent low x → shared key (keyOf x) < prefixOf x → shared key (keyOf x) < 128 → low ≤ shared key (keyOf x)
         → Holds g vs parent low (split key cell new copy x)
     holds-split parent low x s k d short rises =
-        holds-fork parent low (top x) key (shared key (keyOf x)) (bit key (shared key (keyOf x))) (leaf new key cell) (relabel copy x)
-        (top-range parent low x k .0) (omega (arith, top-range parent low x k .1))
-        (s .at-top
-        ∙ λ ι. innerNode (top-parent h ws parent low x k ι) key (shared key (keyOf x))
-        (cond (bit key (shared key (keyOf x))) (sym (top-relabel copy x) ι) new) (cond (bit key (shared key (keyOf x))) new (sym (top-relabel copy x) ι)))
-        rises short (λ e. s .differ (e ∙ top-relabel copy x)) (holds-new x s short) (holds-copy parent low x s k d)
+        held-fork g vs parent low (top x) key (shared key (keyOf x)) (bit key (shared key (keyOf x))) (leaf new key cell) (relabel copy x) (record {
+          index-some = top-range parent low x k .0;
+          index-used = omega (arith, top-range parent low x k .1);
+          here = s .at-top ∙ λ ι. forkNode (top-parent h ws parent low x k ι) key (shared key (keyOf x)) (bit key (shared key (keyOf x))) new (sym (top-relabel copy x) ι);
+          rises = rises;
+          short = short;
+          two = λ e. s .differ (e ∙ top-relabel copy x);
+          on-near = holds-new x s short;
+          on-far = holds-copy parent low x s k d;
+        })
 
     -- what lies in x lies in any tree whose descent ends at x
     from-target : (x t : Tree) (y : ℕ) → target key t ≡ x → (y ≡ top x) ⊎ Child y x → In y t
@@ -184,23 +130,16 @@ module _ (h g : Header) (ws vs : List ℕ) (nodes : h .nodes .bump ≤ g .nodes 
 
     -- an inner node above x, whose one child changes
     module _ (x : Tree) (s : SplitAt xs free key cell new copy x) where
-      holds-aside : (parent low : ℕ) (t : Tree) → Holds h ws parent low t → ((y : ℕ) → In y t → (y ≡ top x) ⊎ Child y x → ⊥) → Holds g vs parent low t
-      holds-aside parent low t k d =
-          holds-kept h g ws vs nodes values parent low t (λ y q. s .at-other y (in-used h ws xs parent low t y free k q) (λ e. d y q (inl e)) (λ z. d y q (inr z))) k
-
       -- the child on the side b changes
       holds-above : (parent low i : ℕ) (a : Key) (p : ℕ) (b : Bool) (near near′ far : Tree) → Holds h ws parent low (fork i a p b near far) → top near′ ≡ top near → target key near ≡ x
           → Holds g vs i (p + 1) near′ → Holds g vs parent low (fork i a p b near′ far)
       holds-above parent low i a p b near near′ far k same e under =
-          let f = fork-held h ws parent low i a p b near far k in
-          holds-fork parent low i a p b near′ far (f .index-some) (omega (arith, f .index-used))
-          (s .at-other i (in-used h ws xs parent low (fork i a p b near far) i free k (subst (λ (y : ℕ). In y (fork i a p b near far)) (top-fork i a p b near far) (in-top (fork i a p b near far))))
-          (λ q. f .not-near (from-target x near i e (inl q)))
-          (λ q. f .not-near (from-target x near i e (inr q)))
-          ∙ f .here
-          ∙ ap (λ (j : ℕ). innerNode parent a p (cond b (top far) j) (cond b j (top far))) (sym same))
-          (f .rises) (f .short) (λ q. f .two (sym same ∙ q)) under
-          (holds-aside i (p + 1) far (f .on-far) (λ y q z. f .apart y q (from-target x near y e z)))
+          let o = fork-once i a p h ws parent low b near far k in
+          let used : (y : ℕ) → In y (fork i a p b near far) → Used (h .nodes .bump) xs y = λ y q. in-used h ws xs parent low (fork i a p b near far) y free k q in
+          fork-rebuilt h g ws vs nodes values parent low i a p b near near′ far k same
+          (s .at-other i (used i (in-node i a p b near far)) (λ q. o .0 (from-target x near i e (inl q))) (λ q. o .0 (from-target x near i e (inr q))))
+          (λ y z. s .at-other y (used y (in-far i a p b near far y z)) (λ q. o .2 y (from-target x near y e (inl q)) z) (λ q. o .2 y (from-target x near y e (inr q)) z))
+          under
 
       pub holds-insert : (parent low : ℕ) (t : Tree) → Holds h ws parent low t → Ordered (insert key cell new copy t) → lookup key t ≡ none → low ≤ prefixOf (insert key cell new copy t) → target key t ≡ x
           → Holds g vs parent low (insert key cell new copy t)

@@ -2,11 +2,9 @@
 use mathlib.Core.Path.{_≡_, refl, sym, ap, subst, _∙_}
 use mathlib.Core.List.{List, [], _∷_}
 use mathlib.Core.Logic.{_≢_, inr}
-use mathlib.Core.Bool.{Bool, cond}
 use Prim.Native.Nat.{ℕ, _+_, _^_, _≤_, _<_}
 use native.Mathlib.Omega.{arith}
 use lib.ListN.{length}
-use borrow.Author.Tests.{ne-eqb, eq-eqb}
 use Rattle.keys.specs.declared.Key.{Key}
 use Rattle.keys.specs.Number.{Fits}
 use Rattle.node_allocator.specs.declared.Arena.the-variants.{Nodes, Values}
@@ -19,7 +17,7 @@ use Rattle.records.specs.declared.Value.{Value}
 use Rattle.records.specs.declared.ValueRecord.{ValueRecord}
 use Rattle.records.specs.Records.{headerOf, nodeOf, valueRecordOf}
 use Rattle.insert.specs.Steps.{contentFrom, leafTaken, valueTaken, leafAdded}
-use Rattle.views.specs.Nodes.{withField, withContent, changed}
+use Rattle.views.specs.Nodes.{withField, withContent, changed, changed-there, changed-other}
 use Rattle.views.specs.Small.{FitsValue}
 use Rattle.accepted.specs.Rules.{Live, leafNode}
 use Rattle.adding.specs.Arenas.{behind, addedTo, Used, used-still, bump-added, FreeNodeOf, nextNodeOf, FreeValueOf, nextValueOf, Arenas}
@@ -38,15 +36,6 @@ top-then s t = record { padding0 = s .padding0 ∙ t .padding0; root = s .root �
 
 pub top-same : {n : ℕ} {ws vs : List ℕ} → headerOf n vs ≡ headerOf n ws → TopKept n vs ws
 top-same e = record { padding0 = ap (λ (h : Header). h .padding0) e; root = ap (λ (h : Header). h .root .0) e; padding1 = ap (λ (h : Header). h .padding1) e }
-
--- ---- node i after a change of it, and every other
-
-module _ (i : ℕ) (g : Node → Node) where
-  pub changed-there : (x : Node) → changed i g i x ≡ g x
-  changed-there x = ap (λ (b : Bool). cond b (g x) x) (eq-eqb i i refl)
-
-  pub changed-other : (y : ℕ) (x : Node) → y ≢ i → changed i g y x ≡ x
-  changed-other y x d = ap (λ (b : Bool). cond b (g x) x) (ne-eqb y i d)
 
 -- ---- what is so afterwards
 

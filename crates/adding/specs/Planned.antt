@@ -21,7 +21,7 @@ use Rattle.insert.specs.Steps.{openedPlan}
 use Rattle.trees.specs.Keys.{shared, bit}
 use Rattle.trees.specs.Lists.{All}
 use Rattle.trees.specs.Tree.{Tree, leaf, inner, top, entries, entries-some}
-use Rattle.trees.specs.Lookup.{lookup, valueOf, lookup-find}
+use Rattle.trees.specs.Lookup.{find-all, lookup, valueOf, lookup-find}
 use Rattle.trees.specs.Map.{Map, listOf, OrderedMap}
 use Rattle.trees.specs.Changes.{target}
 use Rattle.accepted.specs.Rules.{Holds, Live}
@@ -30,7 +30,7 @@ use Rattle.accepted.specs.Tests.{opened, live-passes}
 use Rattle.accepted.specs.Held.{kids-pass}
 use Rattle.finding.specs.Descents.{stopFrom}
 use Rattle.finding.specs.Answers as finding
-use Rattle.finding.specs.Answers.{listed, find-all, nodes-entries, find-tree}
+use Rattle.finding.specs.Answers.{listed, nodes-entries, find-tree}
 use Rattle.adding.specs.Arenas.{FreeNodeOf, nextNodeOf, FreeValueOf, nextValueOf, Arenas, arenas-of, head-inside}
 use Rattle.adding.specs.Taken.{head-taken, next-taken, value-taken}
 

@@ -1,6 +1,6 @@
 -- A key that the map does not hold goes into a tree: the node where it parts from the tree is split, and the image afterwards holds the tree after the insert.
 use mathlib.Core.Path.{_≡_, refl, sym, ap, subst, _∙_}
-use mathlib.Core.List.{List, [], _∷_}
+use mathlib.Core.List.{List}
 use mathlib.Core.Logic.{_≢_, _⊎_, inl, inr}
 use mathlib.Core.Bool.{cond}
 use mathlib.Core.Option.{Option, none, some, Option·getD}
@@ -20,10 +20,10 @@ use Rattle.records.specs.declared.ValueRecord.{ValueRecord}
 use Rattle.records.specs.Records.{headerOf, nodeOf, valueRecordOf}
 use Rattle.insert.specs.Steps.{leafAdded, duplicated, forkedImage, sharedOf, splitImage}
 use Rattle.trees.specs.Keys.{shared, bit, at-most}
-use Rattle.trees.specs.Lists.{All}
+use Rattle.trees.specs.Lists.{All, all-both}
 use Rattle.trees.specs.Tree.{Tree, leaf, top, keyOf, entries, entries-some, Ordered}
 use Rattle.trees.specs.Nodes.{In, Child, in-top}
-use Rattle.trees.specs.Lookup.{lookup, find, valueOf, lookup-find}
+use Rattle.trees.specs.Lookup.{lookup, find, is-some, valueOf, lookup-find}
 use Rattle.trees.specs.Insert.{insert, put, ordered-insert, entries-insert, lookup-insert}
 use Rattle.trees.specs.Map.{Map, listOf, lookupIn, OrderedMap}
 use Rattle.trees.specs.Values.{Numbered, numbered-put, all-put}
@@ -32,7 +32,7 @@ use Rattle.views.specs.Nodes.{withField}
 use Rattle.views.specs.Small.{FitsValue}
 use Rattle.accepted.specs.Rules.{HeaderRules, Holds, Live, leafNode, innerNode}
 use Rattle.accepted.specs.Accepted.{Accepted, HoldsMap}
-use Rattle.finding.specs.Answers.{valued, listed, nodes-entries}
+use Rattle.finding.specs.Answers.{valued, listed, held-valued, nodes-entries}
 use Rattle.adding.specs.Arenas.{behind, Used}
 use Rattle.adding.specs.Stored.{Named}
 use Rattle.adding.specs.Added.{TopKept}
@@ -40,7 +40,7 @@ use Rattle.adding.specs.Leaf.{LeafAdded, leaf-add, top-then}
 use Rattle.adding.specs.Forked.{Forked, node-fork}
 use Rattle.adding.specs.Holding.{in-used, SplitAt, holds-insert}
 use Rattle.adding.specs.Planned.{target-held, arenas, node-room}
-use Rattle.adding.specs.Entered.{enter, enter-new, valued-missed, valued-put, nodes-insert}
+use Rattle.adding.specs.Entered.{enter, enter-new, valued-put, nodes-insert}
 use Rattle.adding.specs.Grown.{assembled, assembled-tree, free-nodes, not-next, tree-other, Kids, kids-of}
 
 module _ {m n : ℕ} {ws : List ℕ} (a : Accepted m n ws) (key : Key) (fits : Fits key) (v : Value) (fits-value : FitsValue v) (t : Tree) (is : a .tree ≡ some t) (miss : lookup key t ≡ none)
@@ -293,14 +293,14 @@ module _ {m n : ℕ} {ws : List ℕ} (a : Accepted m n ws) (key : Key) (fits : F
   different-grown : Numbered (entries grown)
   different-grown = rw entries-grown (numbered-put key cell (entries t) (λ e. omega (arith, one .value-some)) cell-other different)
 
-  live-kept : (es : List (Key × ℕ)) → All (λ e. e .1 ≢ 0) es → All (λ e. cell ≢ e .1) es → All (λ e. Live (valueRecordOf n ws (e .1))) es → All (λ e. Live (valueRecordOf n vs (e .1))) es
-  live-kept [] z d l = tt
-  live-kept (e ∷ es) z d l = (rw (record-kept (e .1) (pos-of-ne-zero (z .0)) (λ q. d .0 (sym q))) (l .0), live-kept es (z .1) (d .1) (l .1))
+  live-kept : All (λ e. Live (valueRecordOf n vs (e .1))) (entries t)
+  live-kept =
+      all-both (λ e k l. rw k l) (entries t) (all-both (λ e z d. record-kept (e .1) (pos-of-ne-zero z) (λ q. d (sym q))) (entries t) (different .nonzero) cell-other) live
 
   live-grown : All (λ e. Live (valueRecordOf n vs (e .1))) (entries grown)
   live-grown =
       rw entries-grown
-      (all-put (λ e. Live (valueRecordOf n vs (e .1))) key cell (entries t) (rw (two .value cell (one .value-some)) (one .live)) (live-kept (entries t) (different .nonzero) cell-other live))
+      (all-put (λ e. Live (valueRecordOf n vs (e .1))) key cell (entries t) (rw (two .value cell (one .value-some)) (one .live)) live-kept)
 
   holds-grown : HoldsMap g vs (some grown)
   unfolding HoldsMap
@@ -328,7 +328,7 @@ module _ {m n : ℕ} {ws : List ℕ} (a : Accepted m n ws) (key : Key) (fits : F
       ap (λ (u : Map). valued n vs (listOf u)) tree-is
       ∙ ap (valued n vs) entries-grown
       ∙ valued-put n ws vs key v cell (ap (λ (r : ValueRecord). r .value) (two .value cell (one .value-some)) ∙ one .stored) record-kept (entries t) (different .nonzero) cell-other
-      ∙ sym (enter-new key v (valued n ws (entries t)) (valued-missed n ws key (entries t) find-none))
+      ∙ sym (enter-new key v (valued n ws (entries t)) (held-valued n ws key (entries t) ∙ ap is-some find-none))
       ∙ ap (λ (u : Map). enter key v (valued n ws (listOf u))) (sym is)
 
   -- the key is found at the new leaf

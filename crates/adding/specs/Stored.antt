@@ -1,12 +1,10 @@
 -- Stores to the nodes' records: each changes the records that it names and leaves the header, the value records and the unused words. They compose.
 use mathlib.Core.Path.{_≡_, refl, sym, ap, _∙_}
-use mathlib.Core.List.{List, [], _∷_}
+use mathlib.Core.List.{List}
 use mathlib.Core.Logic.{_⊎_, inl, inr}
-use mathlib.Core.Bool.{Bool, cond}
 use Prim.Native.Nat.{ℕ, _+_, _*_, _^_, _≤_, _<_}
 use native.Mathlib.Omega.{arith}
 use lib.ListN.{length, getD}
-use borrow.Author.Tests.{ne-eqb}
 use Rattle.node_allocator.specs.declared.Arena.the-variants.{Nodes}
 use Rattle.node_allocator.specs.declared.Field.{Field}
 use Rattle.node_allocator.specs.declared.Field.the-variants as field
@@ -20,8 +18,8 @@ use Rattle.records.specs.declared.Content.{Content}
 use Rattle.records.specs.Records.{headerOf, nodeOf, valueRecordOf}
 use Rattle.records.specs.Writes.{contentAt, setContent}
 use Rattle.insert.specs.Steps.{hung}
-use Rattle.trees.specs.Lists.{All, all-map}
-use Rattle.views.specs.Nodes.{withField, withContent, changed, content-others, node-register, node-content}
+use Rattle.trees.specs.Lists.{All, all-map, all-both}
+use Rattle.views.specs.Nodes.{withField, withContent, changed, changed-other, content-others, node-register, node-content}
 use Rattle.views.specs.Values.{value-register, value-content}
 use Rattle.views.specs.Header.{header-same, register-away, content-away, content-length}
 use Rattle.views.specs.Small.{Small, FitsContent, small-register, small-content}
@@ -48,10 +46,6 @@ change-then {m} {n} {ws} {vs} {us} {f} {g} c d =
       beyond = λ k l. d .beyond k (rw (c .same-header) l) ∙ c .beyond k l;
     }
 
-all-both : {A : Type 0} {P Q R : A → Type 0} → ((a : A) → P a → Q a → R a) → (xs : List A) → All P xs → All Q xs → All R xs
-all-both f [] p q = tt
-all-both f (x ∷ xs) p q = (f x (p .0) (q .0), all-both f xs (p .1) (q .1))
-
 -- the arenas stay where no free node is changed
 module _ {m n : ℕ} {ws vs : List ℕ} {f : ℕ → Node → Node} (xs ys : List ℕ) (c : Change m n ws vs f) (e : All (λ y. (x : Node) → f y x ≡ x) xs) (a : Arenas m n ws xs ys) where
   node-stays : (y : ℕ) → 1 ≤ y → ((x : Node) → f y x ≡ x) → nodeOf vs y ≡ nodeOf ws y
@@ -77,7 +71,7 @@ used-inside a u = record { low = u .low; high = omega (arith, u .high, a .nodes 
 
 -- a change of a used node leaves the free ones
 pub used-apart : {bump : ℕ} (xs : List ℕ) {i : ℕ} (g : Node → Node) → Used bump xs i → All (λ y. (x : Node) → changed i g y x ≡ x) xs
-used-apart xs {i} g u = all-map (λ y d x. ap (λ (b : Bool). cond b (g x) x) (ne-eqb y i d)) xs (u .unlisted)
+used-apart xs {i} g u = all-map (λ y d x. changed-other i g y x d) xs (u .unlisted)
 
 module _ {m n : ℕ} {ws : List ℕ} {xs ys : List ℕ} (a : Arenas m n ws xs ys) (i : ℕ) (u : Used (headerOf n ws .nodes .bump) xs i) where
   room : 12 * n + 8 ≤ length ws
@@ -154,7 +148,7 @@ module _ {m n : ℕ} {ws : List ℕ} {xs ys : List ℕ} (a : Arenas m n ws xs ys
         as-long = refl;
         fit = a .words;
         same-header = refl;
-        node = λ y l. sym (ap (λ (b : Bool). cond b (g (nodeOf ws y)) (nodeOf ws y)) (ne-eqb y 0 (λ e. omega arith)));
+        node = λ y l. sym (changed-other 0 g y (nodeOf ws y) (λ e. omega arith));
         value = λ y l. refl;
         beyond = λ k l. refl;
       }

@@ -2,12 +2,9 @@
 use mathlib.Core.Path.{_≡_, refl, sym, ap, subst, _∙_}
 use mathlib.Core.List.{List, [], _∷_}
 use mathlib.Core.Logic.{_≢_, _⊎_, inl, inr}
-use mathlib.Core.Bool.{Bool, cond}
 use Prim.Native.Nat.{ℕ, _+_, _*_, _≤_, _<_}
 use native.Mathlib.Omega.{arith}
-use native.Mathlib.Decide.{ℕ-discrete}
 use lib.ListN.{length, getD}
-use borrow.Author.Tests.{ne-eqb, eq-eqb}
 use Rattle.node_allocator.specs.declared.Arena.the-variants.{Nodes, Values}
 use Rattle.node_allocator.specs.declared.Counts.{Counts}
 use Rattle.node_allocator.specs.declared.Field.the-variants as field
@@ -23,8 +20,8 @@ use Rattle.records.specs.Records.{headerOf, nodeOf, recordFrom, valueRecordOf}
 use Rattle.records.specs.Writes.{setValue}
 use Rattle.insert.specs.Steps.{valueTaken}
 use Rattle.trees.specs.Lists.{All}
-use Rattle.views.specs.Nodes.{Same, node-value-added, node-value-set}
-use Rattle.views.specs.Values.{withLink, withValue, altered, values-lie, value-added, value-set}
+use Rattle.views.specs.Nodes.{Same, changed, changed-there, changed-other, node-value-added, node-value-set}
+use Rattle.views.specs.Values.{withLink, withValue, values-lie, value-added, value-set, value-registers}
 use Rattle.views.specs.Header.{value-added-apart, value-away, value-beyond, value-length, header-same}
 use Rattle.views.specs.Small.{FitsValue, small-added, small-value}
 use Rattle.accepted.specs.Rules.{FreeValue, Chain, Live}
@@ -74,18 +71,18 @@ module _ {m n : ℕ} {ws xs ys : List ℕ} (a : Arenas m n ws xs ys) (room : hea
   nodes-same : headerOf n added .nodes ≡ headerOf n ws .nodes
   nodes-same = nodes-are n added ∙ apart .1 ∙ sym (nodes-are n ws)
 
-  record-after : (y : ℕ) → 1 ≤ y → valueRecordOf n added y ≡ altered head (withLink 0) y (valueRecordOf n ws y)
+  record-after : (y : ℕ) → 1 ≤ y → valueRecordOf n added y ≡ changed head (withLink 0) y (valueRecordOf n ws y)
   unfolding recordAt
   record-after y l =
       value-added m n ws (omega (arith, a .shape .words)) named
       (subst (λ (c : Counts). c .head ≡ c .bump → getD ws (valueAt n (c .head) + 0) 0 ≡ 0) (values-are m n ws) (λ e. unused-word e 0 (omega arith))) y l
-      ∙ ap (λ (c : Counts). altered (c .head) (withLink 0) y (valueRecordOf n ws y)) (sym (values-are m n ws))
+      ∙ ap (λ (c : Counts). changed (c .head) (withLink 0) y (valueRecordOf n ws y)) (sym (values-are m n ws))
 
   record-other : (y : ℕ) → 1 ≤ y → y ≢ head → valueRecordOf n added y ≡ valueRecordOf n ws y
-  record-other y l d = record-after y l ∙ ap (λ (b : Bool). cond b (withLink 0 (valueRecordOf n ws y)) (valueRecordOf n ws y)) (ne-eqb y head d)
+  record-other y l d = record-after y l ∙ changed-other head (withLink 0) y (valueRecordOf n ws y) d
 
   record-there : valueRecordOf n added head ≡ withLink 0 (valueRecordOf n ws head)
-  record-there = record-after head (inside .low) ∙ ap (λ (b : Bool). cond b (withLink 0 (valueRecordOf n ws head)) (valueRecordOf n ws head)) (eq-eqb head head refl)
+  record-there = record-after head (inside .low) ∙ changed-there head (withLink 0) (valueRecordOf n ws head)
 
   node-after : (y : ℕ) → 1 ≤ y → y ≤ n → nodeOf added y ≡ nodeOf ws y
   node-after y l h = node-value-added m n ws y l h (named .low)
@@ -160,23 +157,18 @@ module _ {m n : ℕ} {ws xs ys : List ℕ} (a : Arenas m n ws xs ys) (j : ℕ) (
   node-kept : (y : ℕ) → 1 ≤ y → y ≤ n → nodeOf filled y ≡ nodeOf ws y
   node-kept y l h = node-value-set m n ws y l h j v
 
-  record-set : (y : ℕ) → 1 ≤ y → valueRecordOf n filled y ≡ altered j (withValue v) y (valueRecordOf n ws y)
+  room : 12 * n + 8 * m + 12 ≤ length ws
+  room = omega (arith, a .shape .words)
+
+  record-named : Inside (Values n m) j
   unfolding capacityOf
-  record-set y l = value-set m n ws (omega (arith, a .shape .words)) j (record { low = low; high = omega (arith, a .values .rules .bump-most) }) v y l
+  record-named = record { low = low; high = omega (arith, a .values .rules .bump-most) }
 
   filled-other : (y : ℕ) → 1 ≤ y → y ≢ j → valueRecordOf n filled y ≡ valueRecordOf n ws y
-  filled-other y l d = record-set y l ∙ ap (λ (b : Bool). cond b (withValue v (valueRecordOf n ws y)) (valueRecordOf n ws y)) (ne-eqb y j d)
+  filled-other y l d = value-set m n ws room j record-named v y l ∙ changed-other j (withValue v) y (valueRecordOf n ws y) d
 
   filled-there : valueRecordOf n filled j ≡ withValue v (valueRecordOf n ws j)
-  filled-there = record-set j low ∙ ap (λ (b : Bool). cond b (withValue v (valueRecordOf n ws j)) (valueRecordOf n ws j)) (eq-eqb j j refl)
-
-  -- registers are no part of a value
-  registers-kept : (y : ℕ) → 1 ≤ y → (P : ValueRecord → Type 0) → ((r : ValueRecord) → P r → P (withValue v r)) → P (valueRecordOf n ws y) → P (valueRecordOf n filled y)
-  registers-kept y l P f p = go (ℕ-discrete y j)
-    where
-      go : Dec (y ≡ j) → P (valueRecordOf n filled y)
-      go (no d) = rw (filled-other y l d) p
-      go (yes e) = rw (e, filled-there) (f (valueRecordOf n ws j) (rw e at p))
+  filled-there = value-set m n ws room j record-named v j low ∙ changed-there j (withValue v) (valueRecordOf n ws j)
 
   arenas-filled : Arenas m n filled xs ys
   arenas-filled =
@@ -196,8 +188,8 @@ module _ {m n : ℕ} {ws xs ys : List ℕ} (a : Arenas m n ws xs ys) (j : ℕ) (
       values-stay =
           on-chain _ ys
           (λ y l h. (
-            λ f. registers-kept y l (FreeValue (headerOf n ws) y) (λ r p. record { link = p .link; zero1 = p .zero1; zero2 = p .zero2; zero3 = p .zero3 }) f,
-            registers-kept y l (λ r. r .register0 ≡ valueRecordOf n ws y .register0) (λ r p. p) refl,
+            λ f. value-registers m n ws room j record-named v y l (FreeValue (headerOf n ws) y) (λ r p. record { link = p .link; zero1 = p .zero1; zero2 = p .zero2; zero3 = p .zero3 }) f,
+            value-registers m n ws room j record-named v y l (λ r. r .register0 ≡ valueRecordOf n ws y .register0) (λ r p. p) refl,
           )) (a .values)
 
 -- ---- both

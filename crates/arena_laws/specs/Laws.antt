@@ -56,7 +56,7 @@ register-word ws f h = rw (inside-is h)
 
 -- ---- the header after a store
 
-counts-same : (a : Arena) (ws vs : List ℕ) → ((k : ℕ) → headerAt a ≤ k → k < headerAt a + 4 → getD vs k 0 ≡ getD ws k 0) → countsOf a vs ≡ countsOf a ws
+pub counts-same : (a : Arena) (ws vs : List ℕ) → ((k : ℕ) → headerAt a ≤ k → k < headerAt a + 4 → getD vs k 0 ≡ getD ws k 0) → countsOf a vs ≡ countsOf a ws
 unfolding countsOf wideAt
 counts-same a ws vs f =
     let zero : getD vs (headerAt a) 0 ≡ getD ws (headerAt a) 0 = f (headerAt a) (omega arith) (omega arith) in
@@ -84,11 +84,7 @@ module _ (a : Arena) (ws : List ℕ) (room : headerAt a + 4 ≤ length ws) where
       let two′ : headerAt a + 2 ≢ headerAt a + 1 = λ e. omega arith in
       let three : headerAt a + 3 ≢ headerAt a = λ e. omega arith in
       let three′ : headerAt a + 3 ≢ headerAt a + 1 = λ e. omega arith in
-      simp (
-        wide-stored ws (headerAt a) n (omega arith),
-        set-wide-others ws (headerAt a) n (headerAt a + 2) two two′,
-        set-wide-others ws (headerAt a) n (headerAt a + 3) three three′,
-      )
+      simp (wide-stored ws (headerAt a) n (omega arith), set-wide-others)
 
   pub counts-head : (i : ℕ) → countsOf a (setHead a ws i) ≡ record { size = countsOf a ws .size; bump = countsOf a ws .bump; head = i }
   unfolding countsOf wideAt
@@ -96,12 +92,8 @@ module _ (a : Arena) (ws : List ℕ) (room : headerAt a + 4 ≤ length ws) where
       let zero : headerAt a ≢ headerAt a + 3 = λ e. omega arith in
       let one : headerAt a + 1 ≢ headerAt a + 3 = λ e. omega arith in
       let two : headerAt a + 2 ≢ headerAt a + 3 = λ e. omega arith in
-      simp (
-        getD-set-other ws (headerAt a + 3) (headerAt a) i 0 zero,
-        getD-set-other ws (headerAt a + 3) (headerAt a + 1) i 0 one,
-        getD-set-other ws (headerAt a + 3) (headerAt a + 2) i 0 two,
-        getD-set-same ws (headerAt a + 3) i 0 (omega arith),
-      )
+      let there : headerAt a + 3 < length ws = omega arith in
+      simp (getD-set-other, getD-set-same)
 
   pub counts-bump : (i : ℕ) → countsOf a (set ws (headerAt a + 2) i) ≡ record { size = countsOf a ws .size; bump = i; head = countsOf a ws .head }
   unfolding countsOf wideAt
@@ -109,9 +101,5 @@ module _ (a : Arena) (ws : List ℕ) (room : headerAt a + 4 ≤ length ws) where
       let zero : headerAt a ≢ headerAt a + 2 = λ e. omega arith in
       let one : headerAt a + 1 ≢ headerAt a + 2 = λ e. omega arith in
       let three : headerAt a + 3 ≢ headerAt a + 2 = λ e. omega arith in
-      simp (
-        getD-set-other ws (headerAt a + 2) (headerAt a) i 0 zero,
-        getD-set-other ws (headerAt a + 2) (headerAt a + 1) i 0 one,
-        getD-set-other ws (headerAt a + 2) (headerAt a + 3) i 0 three,
-        getD-set-same ws (headerAt a + 2) i 0 (omega arith),
-      )
+      let there : headerAt a + 2 < length ws = omega arith in
+      simp (getD-set-other, getD-set-same)

@@ -1,21 +1,21 @@
 -- Document 01, "So each record is in the tree, on the chain or never used, one of the three": on an accepted image, for each node and each value record.
-use mathlib.Core.Path.{_≡_, refl, sym, ap, subst, _∙_}
+use mathlib.Core.Path.{_≡_, refl, sym, subst, _∙_}
 use mathlib.Core.List.{List, [], _∷_, _++_, map}
 use mathlib.Core.Logic.{_≢_, inl, inr}
 use mathlib.Core.Option.{none, some}
-use Prim.Native.Nat.{ℕ, suc, _+_, _-_, _*_, _≤_}
+use Prim.Native.Nat.{ℕ, _+_, _-_, _*_, _≤_}
 use native.Mathlib.Omega.{arith}
-use lib.ListN.{length, length-append}
+use lib.ListN.{length, length-append, length-map}
 use Rattle.words.specs.Zeros.{Zeros}
 use Rattle.node_allocator.specs.Layout.{nodeAt, valueAt}
 use Rattle.node_allocator.specs.declared.Counts.{Counts}
 use Rattle.records.specs.declared.Header.{Header}
 use Rattle.records.specs.Records.{headerOf, nodeOf, valueRecordOf}
-use Rattle.trees.specs.Lists.{All, Pairs, all-map, all-append, pairs-append}
+use Rattle.trees.specs.Lists.{All, all-map, all-append, all-mapped, pairs-append, pairs-mapped}
 use Rattle.trees.specs.Tree.{Tree, leaf, inner, entries}
 use Rattle.trees.specs.Nodes.{In}
 use Rattle.trees.specs.Map.{Map, listOf}
-use Rattle.trees.specs.Values.{Entry, Unlike, Numbered}
+use Rattle.trees.specs.Values.{Entry, Numbered}
 use Rattle.accepted.specs.Rules.{Live, FreeNode, FreeValue, Chain}
 use Rattle.accepted.specs.Accepted.{Accepted, HoldsMap, nodesIn}
 use Rattle.accepted.specs.Held.{Once, once, in-range, some-nodes}
@@ -80,29 +80,13 @@ unfolding nodesIn
 entries-count (leaf i key v) = refl
 entries-count (inner i key p l r) = simp length-append (omega (arith, entries-count l, entries-count r))
 
-named-length : (es : List Entry) → length (namedBy es) ≡ length es
-named-length [] = refl
-named-length (e ∷ es) = ap suc (named-length es)
-
-named-all : (P : ℕ → Type 0) (es : List Entry) → All (λ e. P (e .1)) es → All P (namedBy es)
-named-all P [] a = tt
-named-all P (e ∷ es) a = (a .0, named-all P es (a .1))
-
-named-apart : (es : List Entry) → Pairs Unlike es → Apart (namedBy es)
-named-apart [] p = tt
-named-apart (e ∷ es) p = (named-all (λ j. e .1 ≢ j) es (p .0), named-apart es (p .1))
-
 -- ---- the records of a chain
 
 module _ (Free : ℕ → Type 0) (next : ℕ → ℕ) (bump : ℕ) where
   chain-apart : (i : ℕ) (xs : List ℕ) → Chain Free next bump i xs → Apart xs
   unfolding Chain
   chain-apart i [] c = tt
-  chain-apart i (x ∷ xs) c = (turned xs (chain-once Free next bump i x xs c), chain-apart (next x) xs (c .rest))
-    where
-      turned : (ys : List ℕ) → All (λ y. y ≢ x) ys → All (λ y. x ≢ y) ys
-      turned [] d = tt
-      turned (y ∷ ys) d = ((λ e. d .0 (sym e)), turned ys (d .1))
+  chain-apart i (x ∷ xs) c = (all-map (λ y d e. d (sym e)) xs (chain-once Free next bump i x xs c), chain-apart (next x) xs (c .rest))
 
   chain-within : (i : ℕ) (xs : List ℕ) → Chain Free next bump i xs → Within (bump - 1) xs
   chain-within i xs c = all-map (λ x k. (k .0, omega (arith, k .1))) xs (chain-range Free next bump i xs c)
@@ -171,16 +155,16 @@ module _ {m n : ℕ} {ws : List ℕ} (a : Accepted m n ws) where
   tree-values none k d = record { different = tt; within = tt; many = sym k }
   tree-values (some t) k d =
       record {
-        different = named-apart (entries t) (d .different);
+        different = pairs-mapped (λ (i j : ℕ). i ≢ j) (λ (e : Entry). e .1) (entries t) (d .different);
         within =
-            named-all (λ j. (1 ≤ j) × (j ≤ headerOf n ws .values .bump - 1)) (entries t)
+            all-mapped (λ (j : ℕ). (1 ≤ j) × (j ≤ headerOf n ws .values .bump - 1)) (λ (e : Entry). e .1) (entries t)
             (holds-placed (headerOf n ws) ws (headerOf n ws .values .bump - 1) 0 0 t (omega arith) (k .held));
-        many = omega (arith, named-length (entries t), entries-count t, k .counted, a .header .node-size, some-nodes t);
+        many = omega (arith, length-map (entries t) (λ (e : Entry). e .1), entries-count t, k .counted, a .header .node-size, some-nodes t);
       }
 
   value-taken : (j : ℕ) → Has j (namedBy (listOf (a .tree))) → FreeValue (headerOf n ws) j (valueRecordOf n ws j) → ⊥
   value-taken j q f =
-      let each = named-all (λ i. Live (valueRecordOf n ws i)) (listOf (a .tree)) (a .live) in
+      let each = all-mapped (λ (i : ℕ). Live (valueRecordOf n ws i)) (λ (e : Entry). e .1) (listOf (a .tree)) (a .live) in
       live-not-free (headerOf n ws) j (valueRecordOf n ws j) (has-all (λ i. Live (valueRecordOf n ws i)) j (namedBy (listOf (a .tree))) each q) f
 
   -- Each value record is named by a leaf, on the chain of free value records, or never used, and only one of the three.

@@ -3,15 +3,13 @@ use mathlib.Core.Path.{_≡_, refl, sym, ap, _∙_}
 use mathlib.Core.List.{List}
 use mathlib.Core.Logic.{_≢_, _⊎_, inl, inr}
 use mathlib.Core.Bool.{Bool, true, false, cond, _&&_, false≢true}
-use Prim.Native.Nat.{ℕ, zero, suc, _+_, _-_, _^_, _≤_, _<_}
+use Prim.Native.Nat.{ℕ, zero, suc, _+_, _-_, _≤_, _<_}
 use native.Mathlib.Omega.{arith}
 use lib.ListN.{getD, set}
 use lib.Dec.{eqb}
 use borrow.Author.Tests.{leb-true, ltb-true, eqb-true, eqb-false}
 use Rattle.words.specs.Tests.{and-l, and-r, or-cases, not-true}
-use Rattle.words.specs.Wide.{wideAt}
 use Rattle.keys.specs.declared.Key.{Key}
-use Rattle.keys.specs.Number.{Fits}
 use Rattle.records.specs.declared.Header.{Header}
 use Rattle.records.specs.declared.Node.{Node}
 use Rattle.records.specs.Records.{nodeOf, valueRecordOf}
@@ -20,23 +18,13 @@ use Rattle.full_check.specs.Walk.{Walk, failed, visitOk, leafWalk, joined, walk
 use Rattle.trees.specs.Lists.{all-append}
 use Rattle.trees.specs.Tree.{Tree, leaf, inner, top, keyOf, prefixOf, entries, Ordered}
 use Rattle.trees.specs.Values.{Entry}
-use Rattle.views.specs.Small.{Small}
+use Rattle.views.specs.Small.{Small, content-fits}
 use Rattle.accepted.specs.Rules.{Holds, Live, leafNode, innerNode}
 use Rattle.accepted.specs.Accepted.{nodesIn}
 use Rattle.accepted.specs.Tests.{live-rules}
 use Rattle.checking.specs.Sides.{OnSide, side-rules, side-down}
 use Rattle.checking.specs.Marks.{marked, Fresh, marked-append, fresh-append}
 use Rattle.checking.specs.Passes.{LiveAll, top-rises}
-
--- ---- the key of a node fits, where words are 32-bit words
-
-wide-fits : (ws : List ℕ) (k : ℕ) → Small ws → wideAt ws k < 2 ^ 64
-unfolding wideAt
-wide-fits ws k s = omega (arith, s k, s (k + 1))
-
-key-fits : (ws : List ℕ) (i : ℕ) → Small ws → Fits (nodeOf ws i .key)
-unfolding nodeOf
-key-fits ws i s = record { high-fits = wide-fits ws _ s; low-fits = wide-fits ws _ s }
 
 -- ---- a visited node that passes
 
@@ -189,7 +177,7 @@ module _ (n : ℕ) (h : Header) (ws : List ℕ) (small : Small ws) where
                     value-some = x .value-some;
                     value-used = x .value-used;
                   };
-              ordered = key-fits ws i small;
+              ordered = content-fits ws i small .key-fits;
               on-side = side-ok;
               counted = omega (arith, rest-some);
               fresh = (eqb-true (getD marks (nodeOf ws i .value .0 - 1) 0) 0 (and-r (liveValue (valueRecordOf n ws (nodeOf ws i .value .0))) _ e), tt);
@@ -219,7 +207,7 @@ module _ (n : ℕ) (h : Header) (ws : List ℕ) (small : Small ws) where
               };
           ordered =
               record {
-                fits = key-fits ws i small;
+                fits = content-fits ws i small .key-fits;
                 low = x .short;
                 left = side-down (nodeOf ws i .key) (nodeOf ws i .prefix) false (a .tree) (top-rises-over (a .tree) (a .held)) (a .ordered) (a .on-side (nodeOf ws i .prefix) refl);
                 right = side-down (nodeOf ws i .key) (nodeOf ws i .prefix) true (b .tree) (top-rises-over (b .tree) (b .held)) (b .ordered) (b .on-side (nodeOf ws i .prefix) refl);

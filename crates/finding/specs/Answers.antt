@@ -2,7 +2,7 @@
 use mathlib.Core.Path.{_≡_, refl, sym, ap, _∙_}
 use mathlib.Core.List.{List, [], _∷_, map}
 use mathlib.Core.Logic.{_≢_, _⊎_, inl, inr}
-use mathlib.Core.Bool.{Bool, true, false, cond}
+use mathlib.Core.Bool.{Bool, true, false}
 use mathlib.Core.Option.{Option, none, some, Option·map}
 use Prim.Native.Nat.{ℕ, _+_, _-_, _*_, _≤_, _<_, min}
 use native.Mathlib.Omega.{arith}
@@ -38,12 +38,11 @@ use Rattle.lookup.specs.declared.Target.the-variants.{At, No}
 use Rattle.lookup.specs.Start.{lengthOf, openedLength, capacityOf, openedCapacity}
 use Rattle.lookup.specs.Get.{leafTarget, stopTarget, openedTarget, targetOf, targetGot, getOf, stopDone, openedDone, containsOf, stopPlace, openedPlace, addrOf}
 use Rattle.lookup.specs.Ends.{targetEntry, openedEntry, endEntry}
-use Rattle.trees.specs.Keys.{same}
-use Rattle.trees.specs.Lists.{All}
+use Rattle.trees.specs.Lists.{All, pairs-mapped}
 use Rattle.trees.specs.Ends.{endOf, all-end}
-use Rattle.trees.specs.Tree.{Tree, leaf, inner, top, entries, Ordered}
-use Rattle.trees.specs.Lookup.{find, held, lookup, reach, valueOf, lookup-find, reach-find, outermost, outermost-entry}
-use Rattle.trees.specs.Map.{Map, listOf, lookupIn, reachIn, OrderedMap}
+use Rattle.trees.specs.Tree.{Tree, leaf, inner, top, entries, Ordered, Before, Rising}
+use Rattle.trees.specs.Lookup.{find, held, is-some, held-found, find-all, lookup, reach, valueOf, find-map, reach-find, outermost, outermost-entry}
+use Rattle.trees.specs.Map.{Map, listOf, lookupIn, reachIn, OrderedMap, map-lookup}
 use Rattle.trees.specs.Paths.{depth, depth-bound}
 use Rattle.trees.specs.Changes.{target}
 use Rattle.accepted.specs.Rules.{HeaderRules, Holds, Live}
@@ -63,32 +62,32 @@ listed {m} {n} {ws} a = valued n ws (listOf (a .tree))
 
 -- the value of a key's record
 pub find-valued : (n : ℕ) (ws : List ℕ) (key : Key) (es : List (Key × ℕ)) → find key (valued n ws es) ≡ Option·map (valueAtRecord n ws) (find key es)
-find-valued n ws key [] = refl
-find-valued n ws key (e ∷ es) = go (same key (e .0)) (find-valued n ws key es)
-  where
-    go : (b : Bool) → find key (valued n ws es) ≡ Option·map (valueAtRecord n ws) (find key es)
-        → cond b (some (valueAtRecord n ws (e .1))) (find key (valued n ws es)) ≡ Option·map (valueAtRecord n ws) (cond b (some (e .1)) (find key es))
-    go true x = refl
-    go false x = x
+find-valued n ws key es = find-map key (valueAtRecord n ws) es
 
--- what holds of every entry's record holds of one that is found
-pub find-all : (P : ℕ → Type 0) (key : Key) (es : List (Key × ℕ)) (v : ℕ) → All (λ e. P (e .1)) es → find key es ≡ some v → P v
-find-all P key [] v a e = let z : _≡_ {A = ℕ} 0 1 = cc in absurd (omega arith)
-find-all P key (x ∷ es) v a e = go (same key (x .0)) e (find-all P key es v (a .1))
+-- the list holds the keys of its entries
+pub held-valued : (n : ℕ) (ws : List ℕ) (key : Key) (es : List (Key × ℕ)) → held key (valued n ws es) ≡ is-some (find key es)
+held-valued n ws key es = held-found key (valued n ws es) ∙ ap is-some (find-valued n ws key es) ∙ go (find key es)
   where
-    go : (b : Bool) → cond b (some (x .1)) (find key es) ≡ some v → (find key es ≡ some v → P v) → P v
-    go true q f = let same-value : x .1 ≡ v = cc in rw (sym same-value) (a .0)
-    go false q f = f q
+    go : (r : Option ℕ) → is-some (Option·map (valueAtRecord n ws) r) ≡ is-some r
+    go none = refl
+    go (some j) = refl
+
+-- and rises as they do
+pub valued-rising : (n : ℕ) (ws : List ℕ) (es : List (Key × ℕ)) → Rising es → Rising (valued n ws es)
+valued-rising n ws es h = pairs-mapped Before (λ e. (e .0, valueAtRecord n ws (e .1))) es h
+
+-- where the entries' records stay, the list does
+pub valued-kept : (n : ℕ) (ws vs : List ℕ) (es : List (Key × ℕ)) → All (λ e. valueRecordOf n vs (e .1) ≡ valueRecordOf n ws (e .1)) es → valued n vs es ≡ valued n ws es
+valued-kept n ws vs [] h = refl
+valued-kept n ws vs (e ∷ es) h =
+    let rest : valued n vs es ≡ valued n ws es = valued-kept n ws vs es (h .1) in
+    λ ι. (e .0, h .0 ι .value) ∷ rest ι
 
 end-valued : (n : ℕ) (ws : List ℕ) (b : Bool) (es : List (Key × ℕ)) → endOf b (valued n ws es) ≡ Option·map (λ e. (e .0, valueAtRecord n ws (e .1))) (endOf b es)
 end-valued n ws b [] = refl
 end-valued n ws false (e ∷ es) = refl
 end-valued n ws true (e ∷ []) = refl
 end-valued n ws true (e ∷ f ∷ es) = end-valued n ws true (f ∷ es)
-
-abbrev is-some : {A : Type 0} → Option A → Bool
-is-some none = false
-is-some (some x) = true
 
 -- a tree of so many leaves has one node less than twice as many
 pub nodes-entries : (t : Tree) → nodesIn t + 1 ≡ 2 * length (entries t)
@@ -185,10 +184,15 @@ module _ {m n : ℕ} {ws : List ℕ} (a : Accepted m n ws) where
   targetFrom none = No no.Absent
   targetFrom (some e) = At (record { 0 = e .0 }) (record { 0 = e .1 }) (valueAtRecord n ws (e .1))
 
-  alive : (key : Key) (t : Map) → OrderedMap t → All (λ e. Live (valueRecordOf n ws (e .1))) (listOf t) → (e : ℕ × ℕ) → lookupIn key t ≡ some e → Live (valueRecordOf n ws (e .1))
-  alive key none o l e q = let z : _≡_ {A = ℕ} 0 1 = cc in absurd (omega arith)
-  alive key (some t) o l e q =
-      find-all (λ v. Live (valueRecordOf n ws v)) key (entries t) (e .1) l (sym (lookup-find key t o) ∙ ap valueOf q)
+  pub value-found : (key : Key) → valueOf (lookupIn key (a .tree)) ≡ find key (listOf (a .tree))
+  value-found key = map-lookup key (a .tree) (a .ordered) .0
+
+  -- the list holds a key exactly if it has a leaf
+  pub held-listed : (key : Key) → held key (listed a) ≡ is-some (valueOf (lookupIn key (a .tree)))
+  held-listed key = held-valued n ws key (listOf (a .tree)) ∙ ap is-some (sym (value-found key))
+
+  alive : (key : Key) (e : ℕ × ℕ) → lookupIn key (a .tree) ≡ some e → Live (valueRecordOf n ws (e .1))
+  alive key e q = find-all (λ v. Live (valueRecordOf n ws v)) key (listOf (a .tree)) (e .1) (a .live) (sym (value-found key) ∙ ap valueOf q)
 
   pub target-agrees : (key : Key) → targetOf m n ws key ≡ targetFrom (lookupIn key (a .tree))
   unfolding targetOf openedTarget stopTarget leafTarget stopFrom
@@ -197,18 +201,14 @@ module _ {m n : ℕ} {ws : List ℕ} (a : Accepted m n ws) where
     where
       go : (r : Option (ℕ × ℕ)) → lookupIn key (a .tree) ≡ r → stopTarget n ws (stopFrom r (parting key (a .tree))) ≡ targetFrom r
       go none q = refl
-      go (some e) q = rw (live-passes (valueRecordOf n ws (e .1)) (alive key (a .tree) (a .ordered) (a .live) e q))
-
-  value-found : (key : Key) (t : Map) → OrderedMap t → valueOf (lookupIn key t) ≡ find key (listOf t)
-  value-found key none o = refl
-  value-found key (some t) o = lookup-find key t o
+      go (some e) q = rw (live-passes (valueRecordOf n ws (e .1)) (alive key e q))
 
   pub get-agrees : (key : Key) → getOf m n ws key ≡ gotFrom (find key (listed a))
   unfolding getOf targetGot
   get-agrees key =
       ap targetGot (target-agrees key)
       ∙ go (lookupIn key (a .tree))
-      ∙ ap gotFrom (ap (Option·map (valueAtRecord n ws)) (value-found key (a .tree) (a .ordered)) ∙ sym (find-valued n ws key (listOf (a .tree))))
+      ∙ ap gotFrom (ap (Option·map (valueAtRecord n ws)) (value-found key) ∙ sym (find-valued n ws key (listOf (a .tree))))
     where
       go : (r : Option (ℕ × ℕ)) → targetGot (targetFrom r) ≡ gotFrom (Option·map (valueAtRecord n ws) (valueOf r))
       go none = refl
@@ -216,22 +216,13 @@ module _ {m n : ℕ} {ws : List ℕ} (a : Accepted m n ws) where
 
   -- ---- contains and get_addr
 
-  held-found : {A : Type 0} (key : Key) (es : List (Key × A)) → held key es ≡ is-some (find key es)
-  held-found key [] = refl
-  held-found key (e ∷ es) = go (same key (e .0)) (held-found key es)
-    where
-      go : (b : Bool) → held key es ≡ is-some (find key es) → cond b true (held key es) ≡ is-some (cond b (some (e .1)) (find key es))
-      go true x = refl
-      go false x = x
-
   pub contains-agrees : (key : Key) → containsOf m n ws key ≡ doneFrom (held key (listed a))
   unfolding containsOf openedDone stopDone stopFrom
   contains-agrees key =
       rw (image-opened, find-tree key (a .tree) (a .holds) (a .ordered)) (go (lookupIn key (a .tree)))
-      ∙ ap (λ (b : Bool). doneFrom b)
-      (ap is-some (ap (Option·map (valueAtRecord n ws)) (value-found key (a .tree) (a .ordered)) ∙ sym (find-valued n ws key (listOf (a .tree)))) ∙ sym (held-found key (listed a)))
+      ∙ ap (λ (b : Bool). doneFrom b) (sym (held-listed key))
     where
-      go : (r : Option (ℕ × ℕ)) → stopDone (stopFrom r (parting key (a .tree))) ≡ doneFrom (is-some (Option·map (valueAtRecord n ws) (valueOf r)))
+      go : (r : Option (ℕ × ℕ)) → stopDone (stopFrom r (parting key (a .tree))) ≡ doneFrom (is-some (valueOf r))
       go none = refl
       go (some e) = refl
 

@@ -4,13 +4,11 @@ use mathlib.Core.List.{List, [], _∷_, map}
 use mathlib.Core.Bool.{Bool, true, false, cond}
 use mathlib.Core.Option.{Option, none, some}
 use Prim.Native.Nat.{ℕ, _≤_}
-use native.Mathlib.Omega.{arith}
 use native.Mathlib.Decide.{ℕ-discrete, decLe}
 use native.Mathlib.Nat.{lt-of-not-le}
 use lib.ListN.{length}
 use lib.Dec.{leb}
 use borrow.Author.Tests.{eq-eqb, ne-eqb, le-leb, lt-leb}
-use Rattle.keys.specs.declared.Key.{Key}
 use Rattle.records.specs.declared.Refusal.the-variants as no
 use Rattle.records.specs.declared.Done.{Done}
 use Rattle.records.specs.declared.Done.the-variants as done
@@ -26,12 +24,11 @@ use Rattle.insert.specs.Steps.{insertImage}
 use Rattle.remove.specs.Steps.{removedImage}
 use Rattle.full_check.specs.Check.{checkShape, checkOf}
 use Rattle.trees.specs.Lists.{All}
-use Rattle.trees.specs.Lookup.{find, held, valueOf, lookup-find}
-use Rattle.trees.specs.Map.{Map, listOf, lookupIn, OrderedMap}
-use Rattle.trees.specs.Keys.{same}
+use Rattle.trees.specs.Lookup.{is-some, valueOf}
+use Rattle.trees.specs.Map.{lookupIn}
 use Rattle.accepted.specs.Accepted.{Accepted}
 use Rattle.accepted.specs.Tests.{shape-passes}
-use Rattle.finding.specs.Answers.{valued, listed, placeFrom, get-agrees, contains-agrees, addr-agrees, end-agrees, length-agrees, capacity-agrees}
+use Rattle.finding.specs.Answers.{listed, held-listed, placeFrom, get-agrees, contains-agrees, addr-agrees, end-agrees, length-agrees, capacity-agrees}
 use Rattle.setting.specs.Start.{Blank, started-accepted, started-listed, start-agrees}
 use Rattle.setting.specs.Call.{write-agrees}
 use Rattle.adding.specs.Call.{insert-agrees}
@@ -52,24 +49,11 @@ Is m n ws (holding es) = (a : Accepted m n ws) × (listed a ≡ es)
 -- ---- a node index
 
 -- a key has a leaf exactly if the list holds it
-held-leaf : (n : ℕ) (ws : List ℕ) (key : Key) (es : List (Key × ℕ)) (r : Option (ℕ × ℕ)) → valueOf r ≡ find key es
-    → indexless (place-is (placeFrom r)) ≡ cond (held key (valued n ws es)) somewhere (place-is (place.Refused no.Absent))
-held-leaf n ws key [] none e = refl
-held-leaf n ws key [] (some x) e = let z : _≡_ {A = ℕ} 0 1 = cc in absurd (omega arith)
-held-leaf n ws key (y ∷ es) r e = go (same key (y .0)) r e (held-leaf n ws key es)
-  where
-    go : (b : Bool) (r : Option (ℕ × ℕ)) → valueOf r ≡ cond b (some (y .1)) (find key es)
-        → ((r : Option (ℕ × ℕ)) → valueOf r ≡ find key es → indexless (place-is (placeFrom r)) ≡ cond (held key (valued n ws es)) somewhere (place-is (place.Refused no.Absent)))
-        → indexless (place-is (placeFrom r)) ≡ cond (cond b true (held key (valued n ws es))) somewhere (place-is (place.Refused no.Absent))
-    go true none q f = let z : _≡_ {A = ℕ} 0 1 = cc in absurd (omega arith)
-    go true (some x) q f = refl
-    go false r q f = f r q
+leaf-place : (r : Option (ℕ × ℕ)) → indexless (place-is (placeFrom r)) ≡ cond (is-some (valueOf r)) somewhere (place-is (place.Refused no.Absent))
+leaf-place none = refl
+leaf-place (some e) = refl
 
 module _ {m n : ℕ} {ws : List ℕ} (a : Accepted m n ws) where
-  leaf-found : (key : Key) (t : Map) → OrderedMap t → valueOf (lookupIn key t) ≡ find key (listOf t)
-  leaf-found key none o = refl
-  leaf-found key (some t) o = lookup-find key t o
-
   short : (scratch : List ℕ) → leb m (length scratch) ≡ false → checkOf m n ws scratch ≡ done.Refused no.Shape
   unfolding checkOf checkShape
   short scratch e = rw (shape-passes (a .shape), e)
@@ -79,7 +63,8 @@ module _ {m n : ℕ} {ws : List ℕ} (a : Accepted m n ws) where
   reply-agrees (contains key) = ap (λ (d : Done). done-is d) (contains-agrees a key)
   reply-agrees (address key) =
       ap (λ (p : Place). indexless (place-is p)) (addr-agrees a key)
-      ∙ held-leaf n ws key (listOf (a .tree)) (lookupIn key (a .tree)) (leaf-found key (a .tree) (a .ordered))
+      ∙ leaf-place (lookupIn key (a .tree))
+      ∙ ap (λ (b : Bool). cond b somewhere (place-is (place.Refused no.Absent))) (sym (held-listed a key))
   reply-agrees len = ap (λ (c : Count). count-is c) (length-agrees a)
   reply-agrees capacity = ap (λ (c : Count). count-is c) (capacity-agrees a)
   reply-agrees smallest = ap (λ (e : Entry). entry-is e) (end-agrees a false)

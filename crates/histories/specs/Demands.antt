@@ -21,9 +21,14 @@ use Rattle.lookup.specs.Promises.{start-kept, set-kept}
 use Rattle.insert.specs.Steps.{insertOf, insertImage}
 use Rattle.insert.specs.Promises.{refusal-keeps}
 use Rattle.remove.specs.Promises.{refused-keeps}
+use Rattle.touching.specs.Stores.{Touched, untouched}
+use Rattle.touching.specs.Inserted.{insert-touched}
+use Rattle.touching.specs.Removed.{remove-touched}
+use Rattle.touching.specs.Written.{start-touched, write-touched}
 use Rattle.full_check.specs.Check.{checkOf}
 use Rattle.listing.specs.declared.Position.{Position}
 use Rattle.trees.specs.Lists.{All}
+use Rattle.trees.specs.Tree.{Rising}
 use Rattle.trees.specs.Lookup.{held}
 use Rattle.trees.specs.Map.{shapeIs}
 use Rattle.trees.specs.Shape.{shape}
@@ -33,7 +38,6 @@ use Rattle.accepted.specs.Accepted.{Accepted}
 use Rattle.accepted.specs.Tests.{shape-passes}
 use Rattle.finding.specs.Answers.{listed}
 use Rattle.setting.specs.Start.{Blank}
-use Rattle.adding.specs.Entered.{Rising}
 use Rattle.adding.specs.Call.{insert-full}
 use Rattle.checking.specs.Exact.{Exact, check-exact, check-complete, check-sound}
 use Rattle.histories.specs.Calls.{Call, start, insert, remove, write, ask, Fitting, Answer, numberIn, answerOf, imageOf, answers, imageAfter}
@@ -43,7 +47,6 @@ use Rattle.histories.specs.Refusals.{listNumber, ShortCheck, number-agre
 use Rattle.histories.specs.Indexes.{address-absent, address-names, insert-addressed}
 use Rattle.histories.specs.Unique.{one-list, one-state}
 use Rattle.histories.specs.Shapes.{keysOf, longest, Descends, canonical-shape, short-paths, paths-bound, ascends, counted, nodes-counted, at-most}
-use Rattle.histories.specs.Touched.{Touched, touched}
 use Rattle.histories.specs.NotEmpty.{Limits, zeroWords, inserts, FitsEntry, every-list}
 use Rattle.histories.specs.ShutOut.{story, told, story-told, none-fixed}
 use Rattle.histories.specs.Sharp.{bound-reached}
@@ -176,7 +179,11 @@ same-keys-same-shape a b e = a .shaped ∙ ap shape e ∙ sym (b .shaped)
 
 -- "Each call rewrites at most five node records, one value record and the header": on any image.
 pub rewrites-at-most-five : (m n : ℕ) (ws : List ℕ) (c : Call) → Touched m n ws (imageOf m n c ws)
-rewrites-at-most-five = touched
+rewrites-at-most-five m n ws start = start-touched m n ws
+rewrites-at-most-five m n ws (insert key v) = insert-touched m n ws key v
+rewrites-at-most-five m n ws (remove key) = remove-touched m n ws key
+rewrites-at-most-five m n ws (write key v) = write-touched m n ws key v
+rewrites-at-most-five m n ws (ask q) = untouched
 
 -- ---- nothing of this is empty, and the bound is reached
 

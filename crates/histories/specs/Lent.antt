@@ -12,8 +12,8 @@ use Rattle.records.specs.declared.Done.the-variants as done
 use Rattle.records.specs.Layout as layout
 use Rattle.records.specs.Room.{Shaped}
 use Rattle.full_check.specs.Check.{checkOf}
+use Rattle.trees.specs.Tree.{Rising}
 use Rattle.views.specs.Small.{Small}
-use Rattle.adding.specs.Entered.{Rising}
 use Rattle.checking.specs.Exact.{Exact}
 use Rattle.histories.specs.Calls.{Call, Fitting, Entries}
 use Rattle.histories.specs.Demands.{AsTheList, answers-as-one-list, check-is-exact}

@@ -6,7 +6,6 @@ pub mod Refusals
 pub mod Indexes
 pub mod Unique
 pub mod Shapes
-pub mod Touched
 pub mod NotEmpty
 pub mod Sharp
 pub mod ShutOut

@@ -21,11 +21,10 @@ use Rattle.listing.specs.Step.{stepOf}
 use Rattle.insert.specs.Steps.{insertImage}
 use Rattle.remove.specs.Steps.{removeOf, removedImage}
 use Rattle.remove.specs.Promises.{refused-keeps}
-use Rattle.trees.specs.Keys.{same}
 use Rattle.trees.specs.Lists.{All}
 use Rattle.trees.specs.Ends.{endOf, restOf}
-use Rattle.trees.specs.Lookup.{find, held}
-use Rattle.trees.specs.Remove.{erase}
+use Rattle.trees.specs.Lookup.{held, unheld, find-none}
+use Rattle.trees.specs.Remove.{erase, erase-none}
 use Rattle.accepted.specs.Accepted.{Accepted}
 use Rattle.finding.specs.Answers.{listed, gotFrom, entryFrom}
 use Rattle.setting.specs.Write.{update}
@@ -158,28 +157,12 @@ watched-kept m n ws vs p s left e w = subst (λ (us : List ℕ). Watched m n us 
 
 -- ---- a call between the steps
 
-find-missed : (key : Key) (es : Entries) → held key es ≡ false → find key es ≡ none
-find-missed key [] e = refl
-find-missed key (x ∷ es) e = go (same key (x .0)) e (find-missed key es)
-  where
-    go : (b : Bool) → cond b true (held key es) ≡ false → (held key es ≡ false → find key es ≡ none) → cond b (some (x .1)) (find key es) ≡ none
-    go true q f = let z : _≡_ {A = ℕ} 0 1 = cc in absurd (omega arith)
-    go false q f = f q
-
 -- a key that is not held: remove refuses, and leaves every word
 remove-missed : {m n : ℕ} {ws : List ℕ} (a : Accepted m n ws) (key : Key) → held key (listed a) ≡ false → removedImage m n ws key ≡ ws
 unfolding gotNumber refusalNumber
 remove-missed {m} {n} {ws} a key e =
-    let q : gotNumber (removeOf m n ws key) ≡ 4 = ap gotNumber (remove-agrees a key .0 ∙ ap gotFrom (find-missed key (listed a) e)) in
+    let q : gotNumber (removeOf m n ws key) ≡ 4 = ap gotNumber (remove-agrees a key .0 ∙ ap gotFrom (find-none key (listed a) (unheld key (listed a) e))) in
     refused-keeps m n ws key (λ z. omega arith)
-
-erase-missed : (key : Key) (es : Entries) → held key es ≡ false → erase key es ≡ es
-erase-missed key [] e = refl
-erase-missed key (x ∷ es) e = go (same key (x .0)) e (erase-missed key es)
-  where
-    go : (b : Bool) → cond b true (held key es) ≡ false → (held key es ≡ false → erase key es ≡ es) → cond b es (x ∷ erase key es) ≡ x ∷ es
-    go true q f = let z : _≡_ {A = ℕ} 0 1 = cc in absurd (omega arith)
-    go false q f = ap (λ (l : Entries). x ∷ l) (f q)
 
 either-none : {A : Type 0} (b : Bool) → cond {A = Option A} b none none ≡ none
 either-none true = refl
@@ -207,7 +190,7 @@ module _ (m n : ℕ) (ws : List ℕ) (p : Position) (es : Entries) where
       go true e i = i
       go false e i =
           let missed : held key (listed (w .image)) ≡ false = ap (held key) (w .same-list) ∙ e in
-          rw (erase-missed key es e) (watched-kept m n ws (removedImage m n ws key) p (holding es) (some left) (remove-missed (w .image) key missed) w)
+          rw (erase-none key es (unheld key es e)) (watched-kept m n ws (removedImage m n ws key) p (holding es) (some left) (remove-missed (w .image) key missed) w)
   called-watched left (write key v) f w = moment-written w key v f
   called-watched left (ask q) f w = w
 

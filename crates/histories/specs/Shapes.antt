@@ -11,14 +11,13 @@ use Rattle.records.specs.declared.Value.{Value}
 use Rattle.records.specs.declared.Header.{Header}
 use Rattle.records.specs.declared.Node.{Node}
 use Rattle.records.specs.Records.{headerOf, nodeOf}
-use Rattle.trees.specs.Tree.{Tree, leaf, inner, top}
+use Rattle.trees.specs.Tree.{Tree, leaf, inner, top, Rising}
 use Rattle.trees.specs.Map.{Map, listOf, OrderedMap, shapeIs, map-shape, map-ascending}
 use Rattle.trees.specs.Shape.{shape}
 use Rattle.trees.specs.Paths.{depth, depth-bound}
 use Rattle.accepted.specs.Rules.{Holds}
 use Rattle.accepted.specs.Accepted.{Accepted, HoldsMap, valueAtRecord}
-use Rattle.finding.specs.Answers.{valued, listed}
-use Rattle.adding.specs.Entered.{Rising, valued-rising}
+use Rattle.finding.specs.Answers.{valued, valued-rising, listed}
 use Rattle.adding.specs.Planned.{sized}
 
 -- the keys of a list, in its order

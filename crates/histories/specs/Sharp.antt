@@ -1,58 +1,46 @@
 -- Every ordered tree is, in shape, the tree of some accepted image. So the bound on paths is reached: "B and all 128 powers of two: B's path is 129 nodes", in an image that calls made of blank memory.
 use mathlib.Core.Path.{_≡_, refl, sym, ap, _∙_}
-use mathlib.Core.List.{List, [], _∷_}
+use mathlib.Core.List.{List, [], _∷_, map}
 use mathlib.Core.Option.{none, some}
-use Prim.Native.Nat.{ℕ, suc, max, _≤_, _<_}
+use Prim.Native.Nat.{ℕ, suc, max, _≤_}
 use native.Mathlib.Omega.{arith}
-use lib.ListN.{length}
+use lib.ListN.{length, length-map}
 use lib.Dec.{lit<}
 use Rattle.keys.specs.declared.Key.{Key}
-use Rattle.keys.specs.Number.{Fits, numberOf}
+use Rattle.keys.specs.Number.{Fits}
 use Rattle.records.specs.Numbers.{zeroValue}
-use Rattle.trees.specs.Lists.{All}
-use Rattle.trees.specs.Tree.{Tree, leaf, inner, entries, each-entries, each-fits, Ordered, ascending}
+use Rattle.trees.specs.Lists.{All, all-map, all-mapped, pairs-mapped}
+use Rattle.trees.specs.Tree.{Tree, leaf, inner, entries, each-entries, each-fits, Ordered, Before, Rising, ascending}
 use Rattle.trees.specs.Map.{Map, shapeIs, map-shape}
 use Rattle.trees.specs.Shape.{Shape, lone, branch, shapeOf, shape}
 use Rattle.trees.specs.Shape as shapes
 use Rattle.trees.specs.Paths.{depth, powers, longest-path}
 use Rattle.accepted.specs.Accepted.{Accepted}
 use Rattle.finding.specs.Answers.{listed}
-use Rattle.adding.specs.Entered.{Rising}
 use Rattle.histories.specs.Calls.{Call, start, Entries, imageAfter}
 use Rattle.histories.specs.Shapes.{keysOf, longest, canonical-shape}
 use Rattle.histories.specs.NotEmpty.{Limits, zeroWords, inserts, FitsEntry, every-list}
 
 -- the keys of a tree, each with a value of zeros
 abbrev zeroed : List (Key × ℕ) → Entries
-zeroed [] = []
-zeroed (e ∷ es) = (e .0, zeroValue) ∷ zeroed es
+zeroed es = map (λ e. (e .0, zeroValue)) es
 
 zeroed-keys : (es : List (Key × ℕ)) → keysOf (zeroed es) ≡ keysOf es
 zeroed-keys [] = refl
 zeroed-keys (e ∷ es) = ap (λ (l : List Key). e .0 ∷ l) (zeroed-keys es)
 
-zeroed-length : (es : List (Key × ℕ)) → length (zeroed es) ≡ length es
-zeroed-length [] = refl
-zeroed-length (e ∷ es) = ap suc (zeroed-length es)
-
-zeroed-over : (x : Key) (es : List (Key × ℕ)) → All (λ y. numberOf x < numberOf (y .0)) es → All (λ y. numberOf x < numberOf (y .0)) (zeroed es)
-zeroed-over x [] h = tt
-zeroed-over x (e ∷ es) h = (h .0, zeroed-over x es (h .1))
-
 zeroed-rising : (es : List (Key × ℕ)) → Rising es → Rising (zeroed es)
-zeroed-rising [] h = tt
-zeroed-rising (e ∷ es) h = (zeroed-over (e .0) es (h .0), zeroed-rising es (h .1))
+zeroed-rising es h = pairs-mapped Before (λ e. (e .0, zeroValue)) es h
 
 zeroed-fits : (es : List (Key × ℕ)) → All (λ e. Fits (e .0)) es → All FitsEntry (zeroed es)
-zeroed-fits [] h = tt
-zeroed-fits (e ∷ es) h = ((h .0, record { first-fits = lit< tt; second-fits = lit< tt }), zeroed-fits es (h .1))
+zeroed-fits es h = all-mapped FitsEntry (λ e. (e .0, zeroValue)) es (all-map (λ e f. (f, record { first-fits = lit< tt; second-fits = lit< tt })) es h)
 
 -- An ordered tree of at most M leaves is in shape the tree of an image that calls made of blank memory, and holds the same keys.
 pub every-shape : (m n : ℕ) → Limits m n → (t : Tree) → Ordered t → length (entries t) ≤ m
     → (cs : List Call) × ((a : Accepted m n (imageAfter m n cs (zeroWords m n))) × (keysOf (listed a) ≡ keysOf (entries t)) × (shapeIs (a .tree) ≡ shapeOf t))
 every-shape m n l t o long =
     let es : Entries = zeroed (entries t) in
-    let many : length es ≡ length (entries t) = zeroed-length (entries t) in
+    let many : length es ≡ length (entries t) = length-map (entries t) (λ (e : Key × ℕ). (e .0, zeroValue)) in
     let a = every-list m n l es (zeroed-rising (entries t) (ascending t o)) (zeroed-fits (entries t) (each-entries Fits t (each-fits t o))) (omega arith) in
     let keys : keysOf (listed (a .0)) ≡ keysOf (entries t) = ap (λ (l : Entries). keysOf l) (a .1) ∙ zeroed-keys (entries t) in
     (start ∷ inserts es, (a .0, keys, canonical-shape (a .0) ∙ ap shape keys ∙ sym (map-shape (some t) o)))

@@ -24,6 +24,7 @@ use Rattle.insert.specs.Steps.{insertImage}
 use Rattle.remove.specs.Steps.{removedImage}
 use Rattle.trees.specs.Keys.{same}
 use Rattle.trees.specs.Lists.{All, all-map}
+use Rattle.trees.specs.Tree.{Rising}
 use Rattle.trees.specs.Insert.{put, length-put}
 use Rattle.trees.specs.Lookup.{find, held}
 use Rattle.trees.specs.Remove.{erase, length-erase}
@@ -31,7 +32,7 @@ use Rattle.views.specs.Small.{FitsValue}
 use Rattle.accepted.specs.Accepted.{Accepted}
 use Rattle.finding.specs.Answers.{listed, gotFrom, get-agrees, length-agrees}
 use Rattle.setting.specs.Write.{update}
-use Rattle.adding.specs.Entered.{enter, Rising, enter-either}
+use Rattle.adding.specs.Entered.{enter, enter-either}
 use Rattle.adding.specs.Call.{insert-agrees}
 use Rattle.taking.specs.Call.{remove-agrees}
 use Rattle.histories.specs.Calls.{get, len, check, Call, start, insert, remove, ask, Fitting, Answer, done-is, got-is, place-is, entry-is, count-is, answers, Entries, somewhere, indexless, blank}

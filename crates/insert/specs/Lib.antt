@@ -4,5 +4,4 @@ pub mod Steps
 pub mod Ready
 pub mod Planned
 pub mod Promises
-pub mod Touched
 pub mod Examples

@@ -3,6 +3,4 @@ pub mod Plan
 pub mod Steps
 pub mod Planned
 pub mod Promises
-pub mod Length
-pub mod Touched
 pub mod Examples

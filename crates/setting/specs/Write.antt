@@ -6,11 +6,9 @@ use mathlib.Core.Bool.{Bool, true, false, cond}
 use mathlib.Core.Option.{Option, none, some}
 use Prim.Native.Nat.{ℕ, _+_, _-_, _*_, _≤_, _<_}
 use native.Mathlib.Omega.{arith}
-use native.Mathlib.Decide.{ℕ-discrete}
 use native.Mathlib.Nat.{pos-of-ne-zero}
 use lib.ListN.{length, getD, set}
 use lib.Dec.{eqb}
-use borrow.Author.Tests.{ne-eqb, eq-eqb}
 use Rattle.words.specs.Zeros.{Zeros}
 use Rattle.keys.specs.declared.Key.{Key}
 use Rattle.node_allocator.specs.declared.Arena.the-variants.{Nodes, Values}
@@ -26,21 +24,21 @@ use Rattle.records.specs.Records.{headerOf, nodeOf, valueRecordOf}
 use Rattle.records.specs.Writes.{setValue}
 use Rattle.lookup.specs.Get.{targetDone, writeOf, targetImage, writeImage}
 use Rattle.trees.specs.Keys.{same}
-use Rattle.trees.specs.Lists.{All, Pairs, all-map}
+use Rattle.trees.specs.Lists.{Pairs, all-map, all-both}
 use Rattle.trees.specs.Tree.{Tree, leaf, inner, top, entries}
 use Rattle.trees.specs.Nodes.{In}
-use Rattle.trees.specs.Lookup.{find, held, valueOf}
+use Rattle.trees.specs.Lookup.{find, find-all, held, valueOf}
 use Rattle.trees.specs.Map.{Map, listOf, lookupIn}
 use Rattle.trees.specs.Values.{Entry, Unlike, Numbered}
-use Rattle.views.specs.Nodes.{Same, node-value-set}
-use Rattle.views.specs.Values.{withValue, altered, value-set}
+use Rattle.views.specs.Nodes.{Same, changed-there, changed-other, node-value-set}
+use Rattle.views.specs.Values.{withValue, value-set, value-registers}
 use Rattle.views.specs.Header.{header-parts, header-same, value-away, value-beyond, value-top, value-nodes, value-values, value-length}
 use Rattle.views.specs.Small.{Small, FitsValue, small-value}
 use Rattle.accepted.specs.Rules.{HeaderRules, Holds, Live, FreeValue}
 use Rattle.accepted.specs.Accepted.{Accepted, HoldsMap, valueAtRecord}
 use Rattle.accepted.specs.Held.{in-range}
 use Rattle.accepted.specs.Frame.{holds-kept, chain-kept, chain-range}
-use Rattle.finding.specs.Answers.{valued, listed, find-all, doneFrom, target-agrees}
+use Rattle.finding.specs.Answers.{valued, listed, valued-kept, doneFrom, target-agrees}
 
 -- ---- the list's value write
 
@@ -65,19 +63,10 @@ module _ {m n : ℕ} {ws : List ℕ} (a : Accepted m n ws) (j : ℕ) (low : 1 �
   room = omega (arith, a .shape .words)
 
   record-kept : (x : ℕ) → 1 ≤ x → x ≢ j → valueRecordOf n (setValue m n ws j v) x ≡ valueRecordOf n ws x
-  record-kept x l d = value-set m n ws room j inside v x l ∙ ap (λ (b : Bool). cond b (withValue v (valueRecordOf n ws x)) (valueRecordOf n ws x)) (ne-eqb x j d)
+  record-kept x l d = value-set m n ws room j inside v x l ∙ changed-other j (withValue v) x (valueRecordOf n ws x) d
 
   record-there : valueRecordOf n (setValue m n ws j v) j ≡ withValue v (valueRecordOf n ws j)
-  record-there =
-      value-set m n ws room j inside v j low ∙ ap (λ (b : Bool). cond b (withValue v (valueRecordOf n ws j)) (valueRecordOf n ws j)) (eq-eqb j j refl)
-
-  -- registers are no part of a value
-  registers-kept : (x : ℕ) → 1 ≤ x → (P : ValueRecord → Type 0) → ((r : ValueRecord) → P r → P (withValue v r)) → P (valueRecordOf n ws x) → P (valueRecordOf n (setValue m n ws j v) x)
-  registers-kept x l P f p = go (ℕ-discrete x j)
-    where
-      go : Dec (x ≡ j) → P (valueRecordOf n (setValue m n ws j v) x)
-      go (no d) = rw (record-kept x l d) p
-      go (yes e) = rw (e, record-there) (f (valueRecordOf n ws j) (rw e at p))
+  record-there = value-set m n ws room j inside v j low ∙ changed-there j (withValue v) (valueRecordOf n ws j)
 
   -- every rule is kept
   pub value-accepted : Accepted m n (setValue m n ws j v)
@@ -91,7 +80,7 @@ module _ {m n : ℕ} {ws : List ℕ} (a : Accepted m n ws) (j : ℕ) (low : 1 �
         holds = rw header-kept (map-kept (a .tree) (a .holds));
         ordered = a .ordered;
         different = a .different;
-        live = live-kept (listOf (a .tree)) (a .different .nonzero) (a .live);
+        live = all-both (λ e z l. live-kept (e .1) (pos-of-ne-zero z) l) (listOf (a .tree)) (a .different .nonzero) (a .live);
         free-nodes = a .free-nodes;
         node-chain = rw header-kept (chain-kept _ _ _ _ _ _ (a .free-nodes) (all-map (λ x k. ((λ f. rw (node-kept x (k .0) (k .1)) f), ap (λ (y : Node). y .left .0) (node-kept x (k .0) (k .1)))) (a .free-nodes) (chain-range _ _ _ _ (a .free-nodes) (a .node-chain))) (a .node-chain));
         node-count = rw header-kept (a .node-count);
@@ -112,18 +101,14 @@ module _ {m n : ℕ} {ws : List ℕ} (a : Accepted m n ws) (j : ℕ) (low : 1 �
                 (λ x q. let r = in-range (headerOf n ws) ws 0 0 t x (k .held) q in node-kept x (r .0) (r .1)) (k .held);
           }
 
-      live-kept : (es : List (Key × ℕ)) → All (λ e. e .1 ≢ 0) es → All (λ e. Live (valueRecordOf n ws (e .1))) es → All (λ e. Live (valueRecordOf n (setValue m n ws j v) (e .1))) es
-      live-kept [] z l = tt
-      live-kept (e ∷ es) z l = (
-        registers-kept (e .1) (pos-of-ne-zero (z .0)) Live (λ r p. record { zero0 = p .zero0; zero1 = p .zero1; zero2 = p .zero2; zero3 = p .zero3 }) (l .0),
-        live-kept es (z .1) (l .1),
-      )
+      live-kept : (x : ℕ) → 1 ≤ x → Live (valueRecordOf n ws x) → Live (valueRecordOf n (setValue m n ws j v) x)
+      live-kept x l f = value-registers m n ws room j inside v x l Live (λ r p. record { zero0 = p .zero0; zero1 = p .zero1; zero2 = p .zero2; zero3 = p .zero3 }) f
 
       free-kept : (x : ℕ) → 1 ≤ x → FreeValue (headerOf n ws) x (valueRecordOf n ws x) → FreeValue (headerOf n ws) x (valueRecordOf n (setValue m n ws j v) x)
-      free-kept x l f = registers-kept x l (FreeValue (headerOf n ws) x) (λ r p. record { link = p .link; zero1 = p .zero1; zero2 = p .zero2; zero3 = p .zero3 }) f
+      free-kept x l f = value-registers m n ws room j inside v x l (FreeValue (headerOf n ws) x) (λ r p. record { link = p .link; zero1 = p .zero1; zero2 = p .zero2; zero3 = p .zero3 }) f
 
       link-kept : (x : ℕ) → 1 ≤ x → valueRecordOf n (setValue m n ws j v) x .register0 ≡ valueRecordOf n ws x .register0
-      link-kept x l = registers-kept x l (λ r. r .register0 ≡ valueRecordOf n ws x .register0) (λ r p. p) refl
+      link-kept x l = value-registers m n ws room j inside v x l (λ r. r .register0 ≡ valueRecordOf n ws x .register0) (λ r p. p) refl
 
       unused-node : (k : ℕ) → nodeAt (headerOf n ws .nodes .bump) ≤ k → k < nodeAt (headerOf n ws .nodes .bump) + 12 * (n + 1 - headerOf n ws .nodes .bump) → getD (setValue m n ws j v) k 0 ≡ getD ws k 0
       unused-node k l h = value-away n ws m j v k (omega (arith, a .header .nodes .bump-most, a .header .nodes .bump-some))
@@ -142,19 +127,13 @@ module _ {m n : ℕ} {ws : List ℕ} (a : Accepted m n ws) (j : ℕ) (low : 1 �
   value-listed key (x ∷ es) u e =
       go (same key (x .0)) e (value-listed key es (record { nonzero = u .nonzero .1; different = u .different .1 }))
     where
-      others : (ys : List (Key × ℕ)) → All (λ y. y .1 ≢ 0) ys → All (λ y. j ≢ y .1) ys → valued n (setValue m n ws j v) ys ≡ valued n ws ys
-      others [] z d = refl
-      others (y ∷ ys) z d =
-          let here : valueRecordOf n (setValue m n ws j v) (y .1) ≡ valueRecordOf n ws (y .1) = record-kept (y .1) (pos-of-ne-zero (z .0)) (λ q. d .0 (sym q)) in
-          let rest : valued n (setValue m n ws j v) ys ≡ valued n ws ys = others ys (z .1) (d .1) in
-          λ ι. (y .0, here ι .value) ∷ rest ι
-
       go : (b : Bool) → cond b (some (x .1)) (find key es) ≡ some j → (find key es ≡ some j → valued n (setValue m n ws j v) es ≡ update key v (valued n ws es))
           → valued n (setValue m n ws j v) (x ∷ es) ≡ cond b ((x .0, v) ∷ valued n ws es) ((x .0, valueAtRecord n ws (x .1)) ∷ update key v (valued n ws es))
       go true q f =
           let here : x .1 ≡ j = cc in
           let there : valueRecordOf n (setValue m n ws j v) (x .1) .value ≡ v = ap (λ (k : ℕ). valueRecordOf n (setValue m n ws j v) k .value) here ∙ ap (λ (r : ValueRecord). r .value) record-there in
-          let rest : valued n (setValue m n ws j v) es ≡ valued n ws es = others es (u .nonzero .1) (all-map (λ y d w. d (here ∙ w)) es (u .different .0)) in
+          let rest : valued n (setValue m n ws j v) es ≡ valued n ws es =
+          valued-kept n ws (setValue m n ws j v) es (all-both (λ y z d. record-kept (y .1) (pos-of-ne-zero z) (λ w. d (here ∙ sym w))) es (u .nonzero .1) (u .different .0)) in
           λ ι. (x .0, there ι) ∷ rest ι
       go false q f =
           let off : x .1 ≢ j = find-all (λ w. x .1 ≢ w) key es j (u .different .0) q in

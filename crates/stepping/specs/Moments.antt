@@ -1,7 +1,7 @@
 -- A listing in progress on an accepted image: what is left of the list lies between its two ends. A step takes from what is left, with the value that the list has now; a value write changes the
 -- list and what is left of it alike.
 use mathlib.Core.Path.{_≡_, refl, sym, ap, subst, _∙_}
-use mathlib.Core.List.{List, [], _∷_, map}
+use mathlib.Core.List.{List, [], _∷_}
 use mathlib.Core.Logic.{_≢_}
 use mathlib.Core.Bool.{Bool, cond}
 use mathlib.Core.Option.{Option, some, Option·map}
@@ -16,8 +16,9 @@ use Rattle.listing.specs.declared.Position.{Position}
 use Rattle.listing.specs.Position.{madeOf}
 use Rattle.listing.specs.Step.{stepOf}
 use Rattle.trees.specs.Keys.{same}
-use Rattle.trees.specs.Lists.{All, Pairs}
+use Rattle.trees.specs.Lists.{All, all-both}
 use Rattle.trees.specs.Ends.{endOf, restOf, all-end}
+use Rattle.trees.specs.Tree.{Rising}
 use Rattle.trees.specs.Lookup.{find}
 use Rattle.trees.specs.Map.{Map, listOf, map-ascending}
 use Rattle.trees.specs.Values.{Entry}
@@ -25,7 +26,7 @@ use Rattle.trees.specs.Walk.{start, step, Stands, step-stands, start-stands}
 use Rattle.trees.specs.Walk as walk
 use Rattle.views.specs.Small.{FitsValue}
 use Rattle.accepted.specs.Accepted.{Accepted}
-use Rattle.finding.specs.Answers.{valued, listed, entryFrom}
+use Rattle.finding.specs.Answers.{valued, valued-rising, listed, entryFrom}
 use Rattle.setting.specs.Write.{update}
 use Rattle.stepping.specs.Related.{Related, counts-bound, valuedEntry, step-agrees, made-agrees}
 use Rattle.stepping.specs.Once.{end-map, rest-map}
@@ -45,27 +46,12 @@ pub record Moment (m n : ℕ) (ws : List ℕ) (p : Position) (list left : List (
 
 -- ---- a list in ascending order holds each of its entries
 
-abbrev Rising : {A : Type 0} → List (Key × A) → Type 0
-Rising es = Pairs (λ x y. numberOf (x .0) < numberOf (y .0)) es
-
-all-mapped : {A B : Type 0} (P : B → Type 0) (f : A → B) (xs : List A) → All (λ x. P (f x)) xs → All P (map f xs)
-all-mapped P f [] h = tt
-all-mapped P f (x ∷ xs) h = (h .0, all-mapped P f xs (h .1))
-
-pairs-mapped : {A B : Type 0} (R : B → B → Type 0) (f : A → B) (xs : List A) → Pairs (λ x y. R (f x) (f y)) xs → Pairs R (map f xs)
-pairs-mapped R f [] h = tt
-pairs-mapped R f (x ∷ xs) h = (all-mapped (R (f x)) f xs (h .0), pairs-mapped R f xs (h .1))
-
 finds : {A : Type 0} (es : List (Key × A)) → Rising es → All (λ e. find (e .0) es ≡ some (e .1)) es
 finds [] o = tt
-finds {A} (x ∷ es) o = (rw (eq-eqb (numberOf (x .0)) (numberOf (x .0)) refl), later es (o .0) (finds es (o .1)))
+finds {A} (x ∷ es) o = (rw (eq-eqb (numberOf (x .0)) (numberOf (x .0)) refl), all-both later es (o .0) (finds es (o .1)))
   where
-    later : (ys : List (Key × A)) → All (λ y. numberOf (x .0) < numberOf (y .0)) ys → All (λ y. find (y .0) es ≡ some (y .1)) ys
-        → All (λ y. cond (same (y .0) (x .0)) (some (x .1)) (find (y .0) es) ≡ some (y .1)) ys
-    later [] l h = tt
-    later (y ∷ ys) l h =
-        let off : numberOf (y .0) ≢ numberOf (x .0) = λ z. omega (arith, l .0) in
-        (rw (ne-eqb (numberOf (y .0)) (numberOf (x .0)) off) (h .0), later ys (l .1) (h .1))
+    later : (y : Key × A) → numberOf (x .0) < numberOf (y .0) → find (y .0) es ≡ some (y .1) → cond (same (y .0) (x .0)) (some (x .1)) (find (y .0) es) ≡ some (y .1)
+    later y l h = let off : numberOf (y .0) ≢ numberOf (x .0) = λ z. omega arith in rw (ne-eqb (numberOf (y .0)) (numberOf (x .0)) off) h
 
 -- ---- making a position
 
@@ -140,5 +126,4 @@ module _ {m n : ℕ} {ws : List ℕ} {p : Position} {list left : List (Key × Va
       all : All (λ y. find (y .0) list ≡ some (y .1)) list
       all =
           subst (λ (l : List (Key × Value)). All (λ y. find (y .0) l ≡ some (y .1)) l) (x .same-list)
-          (finds (listed (x .image))
-          (pairs-mapped (λ y z. numberOf (y .0) < numberOf (z .0)) (valuedEntry n ws) (listOf (x .image .tree)) (map-ascending (x .image .tree) (x .image .ordered))))
+          (finds (listed (x .image)) (valued-rising n ws (listOf (x .image .tree)) (map-ascending (x .image .tree) (x .image .ordered))))

@@ -14,15 +14,15 @@ use Rattle.lookup.specs.declared.Target.{Target}
 use Rattle.lookup.specs.Get.{targetImage, writeImage}
 use Rattle.trees.specs.Keys.{same}
 use Rattle.trees.specs.Lists.{All, all-append, all-map}
-use Rattle.trees.specs.Tree.{Tree, leaf, inner, entries, Before, Ascending}
-use Rattle.trees.specs.Lookup.{find, valueOf}
-use Rattle.trees.specs.Map.{Map, listOf, lookupIn, map-lookup, map-ascending}
+use Rattle.trees.specs.Tree.{Tree, leaf, inner, entries, Before, Rising}
+use Rattle.trees.specs.Lookup.{find, find-all, unfound, valueOf}
+use Rattle.trees.specs.Map.{Map, listOf, lookupIn, map-ascending}
 use Rattle.trees.specs.Values.{Entry}
 use Rattle.views.specs.Small.{FitsValue}
 use Rattle.accepted.specs.Rules.{Holds}
 use Rattle.accepted.specs.Held.{list-used}
 use Rattle.accepted.specs.Accepted.{Accepted, HoldsMap, valueAtRecord}
-use Rattle.finding.specs.Answers.{valued, listed, find-all, targetFrom, target-agrees}
+use Rattle.finding.specs.Answers.{valued, listed, targetFrom, value-found, target-agrees}
 use Rattle.setting.specs.Write.{update, value-accepted, value-tree, value-listed}
 use Rattle.stepping.specs.Segments.{Segment, segment-whole, segment-all, segment-pairs}
 
@@ -55,7 +55,7 @@ untouched n ws key v es h =
     together (λ e. (e .0, valueAtRecord n ws (e .1))) (touched n ws key v) es
     (all-map (λ y s. ap (λ (b : Bool). (y .0, cond b v (valueAtRecord n ws (y .1)))) (sym s)) es h)
 
-update-touched : (n : ℕ) (ws : List ℕ) (key : Key) (v : Value) (es : List Entry) → Ascending es → update key v (valued n ws es) ≡ map (touched n ws key v) es
+update-touched : (n : ℕ) (ws : List ℕ) (key : Key) (v : Value) (es : List Entry) → Rising es → update key v (valued n ws es) ≡ map (touched n ws key v) es
 update-touched n ws key v [] o = refl
 update-touched n ws key v (e ∷ es) o = go (same key (e .0)) refl (update-touched n ws key v es (o .1))
   where
@@ -64,15 +64,6 @@ update-touched n ws key v (e ∷ es) o = go (same key (e .0)) refl (update-touch
         ≡ (e .0, cond b v (valueAtRecord n ws (e .1))) ∷ map (touched n ws key v) es
     go true s f = ap (λ (l : List (Key × Value)). (e .0, v) ∷ l) (untouched n ws key v es (others key e es s (o .0)))
     go false s f = ap (λ (l : List (Key × Value)). (e .0, valueAtRecord n ws (e .1)) ∷ l) f
-
-missing : (key : Key) (es : List Entry) → find key es ≡ none → All (λ y. same key (y .0) ≡ false) es
-missing key [] e = tt
-missing key (x ∷ es) e = go (same key (x .0)) e (missing key es)
-  where
-    go : (b : Bool) → cond b (some (x .1)) (find key es) ≡ none → (find key es ≡ none → All (λ y. same key (y .0) ≡ false) es)
-        → (b ≡ false) × All (λ y. same key (y .0) ≡ false) es
-    go true q f = let z : _≡_ {A = ℕ} 0 1 = cc in absurd (omega arith)
-    go false q f = (refl, f q)
 
 -- ---- the value write over the words
 
@@ -87,22 +78,19 @@ module _ {m n : ℕ} {ws : List ℕ} (a : Accepted m n ws) where
   unfolding writeImage targetImage
   write-keeps key v fits = subst (λ (t : Target). Kept a key v (targetImage m n ws v t)) (sym (target-agrees a key)) (go (lookupIn key (a .tree)) refl)
     where
-      found : valueOf (lookupIn key (a .tree)) ≡ find key (listOf (a .tree))
-      found = map-lookup key (a .tree) (a .ordered) .0
-
-      rising : Ascending (listOf (a .tree))
+      rising : Rising (listOf (a .tree))
       rising = map-ascending (a .tree) (a .ordered)
 
       go : (r : Option (ℕ × ℕ)) → lookupIn key (a .tree) ≡ r → Kept a key v (targetImage m n ws v (targetFrom a r))
       go none q =
-          let miss : find key (listOf (a .tree)) ≡ none = sym found ∙ ap valueOf q in
+          let miss : find key (listOf (a .tree)) ≡ none = sym (value-found a key) ∙ ap valueOf q in
           record {
             image = a;
             same-tree = refl;
-            values = apart _ _ (listOf (a .tree)) (untouched n ws key v (listOf (a .tree)) (missing key (listOf (a .tree)) miss));
+            values = apart _ _ (listOf (a .tree)) (untouched n ws key v (listOf (a .tree)) (unfound key (listOf (a .tree)) miss));
           }
       go (some e) q =
-          let hit : find key (listOf (a .tree)) ≡ some (e .1) = sym found ∙ ap valueOf q in
+          let hit : find key (listOf (a .tree)) ≡ some (e .1) = sym (value-found a key) ∙ ap valueOf q in
           let inside = find-all (λ j. (1 ≤ j) × (j < headerOf n ws .values .bump)) key (listOf (a .tree)) (e .1) (list-used (headerOf n ws) ws (a .tree) (a .holds)) hit in
           record {
             image = value-accepted a (e .1) (inside .0) (inside .1) v fits;

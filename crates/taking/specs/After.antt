@@ -8,7 +8,6 @@ use Prim.Native.Nat.{ℕ, suc, _+_, _-_, _*_, _≤_, _<_}
 use native.Mathlib.Omega.{arith}
 use native.Mathlib.Nat.{pos-of-ne-zero}
 use lib.ListN.{length, getD}
-use borrow.Author.Tests.{ne-eqb, eq-eqb}
 use Rattle.keys.specs.declared.Key.{Key}
 use Rattle.node_allocator.specs.declared.Counts.{Counts}
 use Rattle.node_allocator.specs.Layout.{nodeAt}
@@ -17,19 +16,20 @@ use Rattle.records.specs.declared.Node.{Node}
 use Rattle.records.specs.declared.ValueRecord.{ValueRecord}
 use Rattle.records.specs.Records.{headerOf, valueRecordOf}
 use Rattle.trees.specs.Keys.{same}
-use Rattle.trees.specs.Lists.{All, Pairs, all-map}
+use Rattle.trees.specs.Lists.{All, Pairs, all-map, all-both}
 use Rattle.trees.specs.Tree.{entries}
-use Rattle.trees.specs.Lookup.{find}
-use Rattle.trees.specs.Remove.{erase}
+use Rattle.trees.specs.Lookup.{find, find-all, held, is-some, held-found}
+use Rattle.trees.specs.Remove.{erase, length-erase}
 use Rattle.trees.specs.Map.{Map, listOf, removeFrom, map-remove, map-remove-ordered}
 use Rattle.trees.specs.Values.{Unlike, numbered-erase, all-erase}
 use Rattle.views.specs.Small.{Small}
-use Rattle.views.specs.Values.{RoomForAll, altered, withLink}
+use Rattle.views.specs.Nodes.{changed, changed-there, changed-other}
+use Rattle.views.specs.Values.{RoomForAll, withLink}
 use Rattle.accepted.specs.Rules.{ArenaRules, HeaderRules, Live, FreeNode, FreeValue, Chain, NodeChain, ValueChain}
 use Rattle.accepted.specs.Accepted.{Accepted, HoldsMap, valueAtRecord}
 use Rattle.accepted.specs.Frame.{chain-kept, chain-range}
 use Rattle.accepted.specs.Apart.{live-not-free}
-use Rattle.finding.specs.Answers.{valued, listed, find-all, nodes-entries}
+use Rattle.finding.specs.Answers.{valued, listed, valued-kept, nodes-entries}
 use Rattle.taking.specs.Step.{Unused, Bounds}
 
 -- ---- chains
@@ -93,20 +93,11 @@ erase-valued n ws key (e ∷ es) = go (same key (e .0)) (erase-valued n ws key e
     go true r = refl
     go false r = ap (λ l. (e .0, valueAtRecord n ws (e .1)) ∷ l) r
 
-valued-kept : (n : ℕ) (ws vs : List ℕ) (es : List (Key × ℕ)) → All (λ e. valueRecordOf n vs (e .1) ≡ valueRecordOf n ws (e .1)) es → valued n vs es ≡ valued n ws es
-valued-kept n ws vs [] h = refl
-valued-kept n ws vs (e ∷ es) h =
-    let rest : valued n vs es ≡ valued n ws es = valued-kept n ws vs es (h .1) in
-    λ ι. (e .0, h .0 ι .value) ∷ rest ι
-
 -- one entry less
 pub erase-length : (key : Key) (es : List (Key × ℕ)) (j : ℕ) → find key es ≡ some j → length es ≡ suc (length (erase key es))
-erase-length key [] j e = let z : _≡_ {A = ℕ} 0 1 = cc in absurd (omega arith)
-erase-length key (x ∷ es) j e = go (same key (x .0)) e (erase-length key es j)
-  where
-    go : (b : Bool) → cond b (some (x .1)) (find key es) ≡ some j → (find key es ≡ some j → length es ≡ suc (length (erase key es))) → suc (length es) ≡ suc (length (cond b es (x ∷ erase key es)))
-    go true q f = refl
-    go false q f = ap suc (f q)
+erase-length key es j e =
+    let here : held key es ≡ true = held-found key es ∙ ap is-some e in
+    length-erase key es ∙ rw here
 
 within-nodes : (n b k : ℕ) → 1 ≤ b → b ≤ n + 1 → k < nodeAt b + 12 * (n + 1 - b) → k < 12 * n + 8
 within-nodes n b k l h z = omega arith
@@ -137,7 +128,7 @@ pub record Removed {m n : ℕ} {ws : List ℕ} (a : Accepted m n ws) (key : Key)
   pub rules : HeaderRules m n (headerOf n vs)
   pub node-bump : headerOf n vs .nodes .bump ≡ headerOf n ws .nodes .bump
   pub value-counts : headerOf n vs .values ≡ record { size = headerOf n ws .values .size - 1; bump = headerOf n ws .values .bump; head = j }
-  pub value : (y : ℕ) → 1 ≤ y → valueRecordOf n vs y ≡ altered j (withLink (headerOf n ws .values .head)) y (valueRecordOf n ws y)
+  pub value : (y : ℕ) → 1 ≤ y → valueRecordOf n vs y ≡ changed j (withLink (headerOf n ws .values .head)) y (valueRecordOf n ws y)
   pub unused : (k : ℕ) → Unused n (headerOf n ws .nodes .bump) (headerOf n ws .values .bump) k → getD vs k 0 ≡ getD ws k 0
   pub holds : HoldsMap (headerOf n vs) vs (removeFrom key (a .tree))
   pub free-nodes : List ℕ
@@ -149,12 +140,10 @@ module _ {m n : ℕ} {ws : List ℕ} (a : Accepted m n ws) (key : Key) (j : ℕ)
   same-bump = ap (λ (x : Counts). x .bump) (r .value-counts)
 
   record-kept : (y : ℕ) → 1 ≤ y → y ≢ j → valueRecordOf n vs y ≡ valueRecordOf n ws y
-  record-kept y l d =
-      r .value y l ∙ ap (λ (b : Bool). cond b (withLink (headerOf n ws .values .head) (valueRecordOf n ws y)) (valueRecordOf n ws y)) (ne-eqb y j d)
+  record-kept y l d = r .value y l ∙ changed-other j (withLink (headerOf n ws .values .head)) y (valueRecordOf n ws y) d
 
   record-freed : valueRecordOf n vs j ≡ withLink (headerOf n ws .values .head) (valueRecordOf n ws j)
-  record-freed =
-      r .value j (r .value-some) ∙ ap (λ (b : Bool). cond b (withLink (headerOf n ws .values .head) (valueRecordOf n ws j)) (valueRecordOf n ws j)) (eq-eqb j j refl)
+  record-freed = r .value j (r .value-some) ∙ changed-there j (withLink (headerOf n ws .values .head)) (valueRecordOf n ws j)
 
   alive : Live (valueRecordOf n ws j)
   alive = find-all (λ v. Live (valueRecordOf n ws v)) key (listOf (a .tree)) j (a .live) (r .found)
@@ -165,18 +154,12 @@ module _ {m n : ℕ} {ws : List ℕ} (a : Accepted m n ws) (key : Key) (j : ℕ)
   -- the records of the entries that are left
   entries-kept : All (λ e. valueRecordOf n vs (e .1) ≡ valueRecordOf n ws (e .1)) (erase key (listOf (a .tree)))
   entries-kept =
-      go (erase key (listOf (a .tree))) (numbered-erase key (listOf (a .tree)) (a .different) .nonzero) (others-left key (listOf (a .tree)) j (a .different .different) (r .found))
-    where
-      go : (es : List (Key × ℕ)) → All (λ e. e .1 ≢ 0) es → All (λ e. e .1 ≢ j) es → All (λ e. valueRecordOf n vs (e .1) ≡ valueRecordOf n ws (e .1)) es
-      go [] z d = tt
-      go (e ∷ es) z d = (record-kept (e .1) (pos-of-ne-zero (z .0)) (d .0), go es (z .1) (d .1))
+      all-both (λ e z d. record-kept (e .1) (pos-of-ne-zero z) d) (erase key (listOf (a .tree)))
+      (numbered-erase key (listOf (a .tree)) (a .different) .nonzero)
+      (others-left key (listOf (a .tree)) j (a .different .different) (r .found))
 
   live-left : All (λ e. Live (valueRecordOf n vs (e .1))) (erase key (listOf (a .tree)))
-  live-left = go (erase key (listOf (a .tree))) entries-kept (all-erase _ key (listOf (a .tree)) (a .live))
-    where
-      go : (es : List (Key × ℕ)) → All (λ e. valueRecordOf n vs (e .1) ≡ valueRecordOf n ws (e .1)) es → All (λ e. Live (valueRecordOf n ws (e .1))) es → All (λ e. Live (valueRecordOf n vs (e .1))) es
-      go [] k l = tt
-      go (e ∷ es) k l = (rw (k .0) (l .0), go es (k .1) (l .1))
+  live-left = all-both (λ e k l. rw k l) (erase key (listOf (a .tree))) entries-kept (all-erase _ key (listOf (a .tree)) (a .live))
 
   list-left : listOf (removeFrom key (a .tree)) ≡ erase key (listOf (a .tree))
   list-left = map-remove key (a .tree) (a .ordered)

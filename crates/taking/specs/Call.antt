@@ -1,11 +1,9 @@
 -- Remove on an accepted image answers as the list does, refusals included, and leaves an accepted image whose list is the list without the key.
 use mathlib.Core.Path.{_≡_, refl, sym, ap, _∙_}
-use mathlib.Core.List.{List, [], _∷_}
+use mathlib.Core.List.{List}
 use mathlib.Core.Logic.{inl, inr}
-use mathlib.Core.Bool.{Bool, true, false, cond}
 use mathlib.Core.Option.{Option, none, some, Option·map}
 use Prim.Native.Nat.{ℕ}
-use native.Mathlib.Omega.{arith}
 use Rattle.keys.specs.declared.Key.{Key}
 use Rattle.records.specs.declared.Got.the-variants as got
 use Rattle.records.specs.Records.{headerOf, nodeOf, valueRecordOf}
@@ -14,31 +12,20 @@ use Rattle.remove_steps.specs.Steps.{leafValue, loneImage, cutImage}
 use Rattle.remove.specs.declared.Plan.{Plan}
 use Rattle.remove.specs.Plan.{leafPlan, stopPlan}
 use Rattle.remove.specs.Steps.{planImage, valueGone, openedPlan, removeOf, removedImage}
-use Rattle.trees.specs.Keys.{same, Bit, testb}
+use Rattle.trees.specs.Keys.{Bit, testb}
 use Rattle.trees.specs.Tree.{Tree, leaf}
-use Rattle.trees.specs.Lookup.{find, reach, valueOf}
-use Rattle.trees.specs.Remove.{hit, erase}
+use Rattle.trees.specs.Lookup.{find, find-all, unfound, reach, valueOf}
+use Rattle.trees.specs.Remove.{hit, erase, erase-none}
 use Rattle.trees.specs.Map.{Map, listOf, reachIn, map-lookup}
 use Rattle.accepted.specs.Rules.{Live}
 use Rattle.accepted.specs.Accepted.{Accepted, valueAtRecord}
 use Rattle.accepted.specs.Tests.{opened, live-passes}
 use Rattle.finding.specs.Descents.{stopFrom}
-use Rattle.finding.specs.Answers.{valued, listed, gotFrom, find-all, landing, reach-tree, find-valued}
+use Rattle.finding.specs.Answers.{valued, listed, gotFrom, landing, reach-tree, find-valued}
 use Rattle.taking.specs.Spot.{hit-leaf}
 use Rattle.taking.specs.After.{removed-accepted, removed-listed}
 use Rattle.taking.specs.Cut.{cut-removed, cut-plan, cut-value}
 use Rattle.taking.specs.Lone.{lone-removed, lone-plan, lone-value}
-
--- ---- the list's remove
-
--- a key that is not held is not removed
-erase-missed : {A : Type 0} (key : Key) (es : List (Key × A)) → find key es ≡ none → erase key es ≡ es
-erase-missed key [] e = refl
-erase-missed key (y ∷ es) e = go (same key (y .0)) e (erase-missed key es)
-  where
-    go : (b : Bool) → cond b (some (y .1)) (find key es) ≡ none → (find key es ≡ none → erase key es ≡ es) → cond b es (y ∷ erase key es) ≡ y ∷ es
-    go true q f = let z : _≡_ {A = ℕ} 0 1 = cc in absurd (omega arith)
-    go false q f = ap (λ l. y ∷ l) (f q)
 
 module _ {m n : ℕ} {ws : List ℕ} (a : Accepted m n ws) (key : Key) where
   -- what is to be shown of a plan
@@ -58,7 +45,7 @@ module _ {m n : ℕ} {ws : List ℕ} (a : Accepted m n ws) (key : Key) where
   unfolding stopPlan stopFrom valueGone planImage
   absent q =
       let miss : find key (listed a) ≡ none = reached ∙ ap (λ (r : Option (ℕ × ℕ)). Option·map (valueAtRecord n ws) (valueOf r)) q in
-      rw (planned, q) (rw miss refl, (a, sym (erase-missed key (listed a) miss)))
+      rw (planned, q) (rw miss refl, (a, sym (erase-none key (listed a) (unfound key (listed a) miss))))
 
   -- a value record that is removed is live
   live-found : (i j : ℕ) → reachIn key (a .tree) ≡ some (i, j) → Live (valueRecordOf n ws j)

@@ -24,16 +24,18 @@ use Rattle.trees.specs.Lookup.{find, reach, valueOf, reach-find}
 use Rattle.trees.specs.Remove.{hit, remove, erase, entries-remove}
 use Rattle.trees.specs.Changes.{spot, in-spot, top-remove}
 use Rattle.trees.specs.Map.{Map, listOf, removeFrom, OrderedMap}
-use Rattle.views.specs.Values.{altered, withLink}
+use Rattle.views.specs.Nodes.{changed}
+use Rattle.views.specs.Values.{withLink}
 use Rattle.views.specs.Header.{header-parts}
 use Rattle.accepted.specs.Rules.{HeaderRules, Holds, FreeNode, NodeChain}
 use Rattle.accepted.specs.Accepted.{Accepted, HoldsMap, nodesIn}
 use Rattle.accepted.specs.Held.{top-parent, in-range}
 use Rattle.accepted.specs.Frame.{chain-kept, chain-range}
+use Rattle.accepted.specs.Forks.{in-near}
 use Rattle.accepted.specs.Apart.{node-not-free}
 use Rattle.finding.specs.Answers.{nodes-entries}
 use Rattle.taking.specs.Step.{Step, freedCounts, header-after, freed-size}
-use Rattle.taking.specs.Spot.{Spot, Way, below, in-near, cut-planned, leaf-here}
+use Rattle.taking.specs.Spot.{Spot, Way, below, cut-planned, leaf-here}
 use Rattle.taking.specs.Records.{cuts}
 use Rattle.taking.specs.After.{Removed, chain-front, chain-head, free-below, arena-freed, erase-length, bounds-of, room-of, sized}
 use Rattle.taking.specs.Moved.{leaf-range, sibling-range, cut-step, node-leaf, node-place, node-outside, closed}
@@ -92,7 +94,7 @@ module _ {m n : ℕ} {ws : List ℕ} (a : Accepted m n ws) (key : Key) (t : Tree
   in-sibling = sibling-range ws (room-of a) (a .words) (bounds-of a) key i j (spot key t) place
 
   step : Step m n (headerOf n ws .nodes .bump) (headerOf n ws .values .bump) ws (cutImage m n ws key i)
-      (cuts (nodeOf ws (top (place .far))) i (place .p) (top (place .far)) (countsOf (Nodes n) ws .head) (place .side)) (altered j (withLink (countsOf (Values n m) ws .head)))
+      (cuts (nodeOf ws (top (place .far))) i (place .p) (top (place .far)) (countsOf (Nodes n) ws .head) (place .side)) (changed j (withLink (countsOf (Values n m) ws .head)))
       (λ x. freedCounts (top (place .far)) (freedCounts i x)) (freedCounts j)
   step = cut-step ws (room-of a) (a .words) (bounds-of a) key i j (spot key t) place
 

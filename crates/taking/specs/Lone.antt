@@ -29,7 +29,7 @@ use Rattle.trees.specs.Map.{Map, listOf, removeFrom}
 use Rattle.views.specs.Words.{wide-same}
 use Rattle.views.specs.Small.{small-set}
 use Rattle.views.specs.Nodes.{changed, withField, node-root}
-use Rattle.views.specs.Values.{RoomForAll, altered, withLink, value-root}
+use Rattle.views.specs.Values.{RoomForAll, withLink, value-root}
 use Rattle.views.specs.Header.{header-parts, root-nodes, root-values}
 use Rattle.accepted.specs.Rules.{HeaderRules, Holds, FreeNode, NodeChain, leafNode}
 use Rattle.accepted.specs.Accepted.{Accepted, HoldsMap}
@@ -90,7 +90,7 @@ module _ {m n : ℕ} {ws : List ℕ} (a : Accepted m n ws) (key : Key) (i : ℕ)
   apart = rw (unhung-root (bounds-of a) (clearRegister (Nodes n) (set ws 2 0) i field.Value) i (in-leaf .0)) (stays m n _ _ _)
 
   step : Step m n (headerOf n ws .nodes .bump) (headerOf n ws .values .bump) (set ws 2 0) (loneImage m n ws i)
-      (frees (λ y x. x) i (headerOf n ws .nodes .head)) (altered j (withLink (headerOf n ws .values .head))) (freedCounts i) (freedCounts j)
+      (frees (λ y x. x) i (headerOf n ws .nodes .head)) (changed j (withLink (headerOf n ws .values .head))) (freedCounts i) (freedCounts j)
   unfolding loneImage
   step =
       freed-step (bounds-of a) (set ws 2 0) blank-room i 0 j (headerOf n ws .nodes .head) (headerOf n ws .values .head) (λ y x. x)
@@ -209,7 +209,7 @@ module _ {m n : ℕ} {ws : List ℕ} (a : Accepted m n ws) (key : Key) (i : ℕ)
         rules = rw header-is rules;
         node-bump = ap (λ (h : Header). h .nodes .bump) header-is;
         value-counts = ap (λ (h : Header). h .values) header-is;
-        value = λ y l. step .value y l ∙ ap (altered j (withLink (headerOf n ws .values .head)) y) (value-root n ws y 0 l);
+        value = λ y l. step .value y l ∙ ap (changed j (withLink (headerOf n ws .values .head)) y) (value-root n ws y 0 l);
         unused = λ k u. step .unused k u ∙ getD-set-other ws 2 k 0 0 (away k u);
         holds = subst (λ (u : Map). HoldsMap (headerOf n (loneImage m n ws i)) (loneImage m n ws i) (removeFrom key u)) (sym is) (rw (header-is, ours) empty);
         free-nodes = i ∷ a .free-nodes;

@@ -16,15 +16,16 @@ use Rattle.records.specs.Records.{headerOf, nodeOf}
 use Rattle.remove_steps.specs.Steps.{leafRemoved, migrated, cutImage}
 use Rattle.trees.specs.Tree.{Tree, leaf, inner, fork, top, relabel}
 use Rattle.trees.specs.Nodes.{In, Child, in-top, is-top, in-child}
-use Rattle.views.specs.Small.{Small}
+use Rattle.views.specs.Small.{Small, content-fits, value-fits}
 use Rattle.views.specs.Nodes.{changed, withField}
-use Rattle.views.specs.Values.{RoomForAll, altered, withLink}
+use Rattle.views.specs.Values.{RoomForAll, withLink}
 use Rattle.accepted.specs.Rules.{Holds, leafNode, innerNode}
 use Rattle.accepted.specs.Held.{once, in-range}
-use Rattle.accepted.specs.Frame.{holds-kept}
-use Rattle.taking.specs.Step.{Step, Quiet, Bounds, freedCounts, joined, room-after, register-step, content-fits, value-fits}
+use Rattle.accepted.specs.Frame.{holds-moved}
+use Rattle.accepted.specs.Forks.{forkNode, fork-once}
+use Rattle.taking.specs.Step.{Step, Quiet, Bounds, freedCounts, joined, room-after, register-step}
 use Rattle.taking.specs.Stores.{Hangs, unhangs, frees, unhung-step, freed-step, migrated-step}
-use Rattle.taking.specs.Spot.{forkNode, Spot, fork-once, leaf-here, sibling-is}
+use Rattle.taking.specs.Spot.{Spot, leaf-here, sibling-is}
 use Rattle.taking.specs.Records.{off, cuts, freeLeaf, freePlace, takesOver, frees-off, cuts-off, cuts-leaf, cuts-kid, cuts-place, cuts-parent}
 
 -- ---- the children of a node that is held
@@ -57,33 +58,6 @@ module _ (h : Header) (ws : List ℕ) where
     omega (arith, in-range h ws i (p + 1) a (top a) (k .on-left) (in-top a) .1, ap (λ (x : Node). x .left .0) (k .here)),
     omega (arith, in-range h ws i (p + 1) b (top b) (k .on-right) (in-top b) .1, ap (λ (x : Node). x .right .0) (k .here)),
   )
-
-  -- a tree whose top has another Parent, and no other node changes
-  reparented : (g : Header) (vs : List ℕ) → h .nodes .bump ≤ g .nodes .bump → h .values .bump ≤ g .values .bump → (parent parent′ low : ℕ) (t : Tree)
-      → nodeOf vs (top t) ≡ withField field.Parent parent′ (nodeOf ws (top t)) → ((y : ℕ) → In y t → y ≢ top t → nodeOf vs y ≡ nodeOf ws y)
-      → Holds h ws parent low t → Holds g vs parent′ low t
-  unfolding Holds
-  reparented g vs b c parent parent′ low (leaf i key v) e kept k =
-      record {
-        index-some = k .index-some;
-        index-used = omega (arith, k .index-used);
-        here = e ∙ ap (withField field.Parent parent′) (k .here);
-        rises = k .rises;
-        value-some = k .value-some;
-        value-used = omega (arith, k .value-used);
-      }
-  reparented g vs b c parent parent′ low (inner i key p l r) e kept k =
-      let o = once h ws parent low (inner i key p l r) k in
-      record {
-        index-some = k .index-some;
-        index-used = omega (arith, k .index-used);
-        here = e ∙ ap (withField field.Parent parent′) (k .here);
-        rises = k .rises;
-        short = k .short;
-        two = k .two;
-        on-left = holds-kept h g ws vs b c i (p + 1) l (λ y z. kept y (inr (inl z)) (λ q. o .0 (subst (λ x. In x l) q z))) (k .on-left);
-        on-right = holds-kept h g ws vs b c i (p + 1) r (λ y z. kept y (inr (inr z)) (λ q. o .1 (subst (λ x. In x r) q z))) (k .on-right);
-      }
 
 -- ---- the image after a cut
 
@@ -122,7 +96,7 @@ module _ {m n : ℕ} (ws : List ℕ) (room : RoomForAll m n ws) (small : Small w
   within y h = omega (arith, bounds .most)
 
   first-step : Step m n (headerOf n ws .nodes .bump) (headerOf n ws .values .bump) ws (leafRemoved m n ws i)
-      (frees (unhangs (s .side) i (s .p)) i (countsOf (Nodes n) ws .head)) (altered j (withLink (countsOf (Values n m) ws .head))) (freedCounts i) (freedCounts j)
+      (frees (unhangs (s .side) i (s .p)) i (countsOf (Nodes n) ws .head)) (changed j (withLink (countsOf (Values n m) ws .head))) (freedCounts i) (freedCounts j)
   first-step =
       freed-step bounds ws room i (s .p) j (countsOf (Nodes n) ws .head) (countsOf (Values n m) ws .head) (unhangs (s .side) i (s .p))
       (ap (λ (x : Node). x .parent .0) here) (ap (λ (x : Node). x .value .0) here) (leaf-range .0) (leaf-range .1) (leaf-range .2) (leaf-range .3) refl refl
@@ -146,7 +120,7 @@ module _ {m n : ℕ} (ws : List ℕ) (room : RoomForAll m n ws) (small : Small w
 
   -- all stores
   pub cut-step : Step m n (headerOf n ws .nodes .bump) (headerOf n ws .values .bump) ws (cutImage m n ws key i)
-      (cuts (nodeOf ws (top (s .far))) i (s .p) (top (s .far)) (countsOf (Nodes n) ws .head) (s .side)) (altered j (withLink (countsOf (Values n m) ws .head)))
+      (cuts (nodeOf ws (top (s .far))) i (s .p) (top (s .far)) (countsOf (Nodes n) ws .head) (s .side)) (changed j (withLink (countsOf (Values n m) ws .head)))
       (λ x. freedCounts (top (s .far)) (freedCounts i x)) (freedCounts j)
   cut-step =
       rw cut-is
@@ -155,7 +129,7 @@ module _ {m n : ℕ} (ws : List ℕ) (room : RoomForAll m n ws) (small : Small w
       (first-step .node (top (s .far)) (sibling-range .0) (within (top (s .far)) (sibling-range .1))
       ∙ frees-off (s .side) i (s .p) (countsOf (Nodes n) ws .head) (top (s .far)) (nodeOf ws (top (s .far))) sibling-not-leaf sibling-not-parent)
       sibling-not-parent (sibling-range .0) (sibling-range .1) (s .held .index-some) (s .held .index-used)
-      (kids .0) (kids .1) (value-fits ws small (top (s .far))) (content-fits ws small (top (s .far)))
+      (kids .0) (kids .1) (value-fits ws (top (s .far)) small) (content-fits ws (top (s .far)) small)
       (ap (λ (x : Counts). x .head) (first-step .node-counts))))
     where
       kids : (nodeOf ws (top (s .far)) .left .0 < headerOf n ws .nodes .bump) × (nodeOf ws (top (s .far)) .right .0 < headerOf n ws .nodes .bump)
@@ -267,9 +241,9 @@ module _ {m n : ℕ} (ws : List ℕ) (room : RoomForAll m n ws) (small : Small w
             rises = omega (arith, s .held .rises, k .rises);
             short = k .short;
             two = k .two;
-            on-left = reparented (headerOf n ws) ws g (cutImage m n ws key i) b c x (s .p) (q + 1) l (kid (top l) (inl refl))
+            on-left = holds-moved (headerOf n ws) g ws (cutImage m n ws key i) b c x (s .p) (q + 1) l (kid (top l) (inl refl))
                 (λ y z d. low y (inr (inl z)) (λ f. o .0 (subst (λ w. In w l) f z)) (λ f. not-left y z d f)) (k .on-left);
-            on-right = reparented (headerOf n ws) ws g (cutImage m n ws key i) b c x (s .p) (q + 1) r (kid (top r) (inr refl))
+            on-right = holds-moved (headerOf n ws) g ws (cutImage m n ws key i) b c x (s .p) (q + 1) r (kid (top r) (inr refl))
                 (λ y z d. low y (inr (inr z)) (λ f. o .1 (subst (λ w. In w r) f z)) (λ f. not-right y z d f)) (k .on-right);
           }
         where

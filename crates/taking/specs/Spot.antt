@@ -1,15 +1,13 @@
 -- Where a remove takes place: the key's leaf hangs below a node of the tree, and its sibling beside it. The tests before any write pass there, and the plan is to cut.
-use mathlib.Core.Path.{_≡_, refl, sym, ap, subst, _∙_}
+use mathlib.Core.Path.{_≡_, refl, ap, subst}
 use mathlib.Core.List.{List}
-use mathlib.Core.Logic.{_≢_, inl, inr}
 use mathlib.Core.Bool.{Bool, true, false, cond}
 use mathlib.Core.Option.{Option, none, some}
-use Prim.Native.Nat.{ℕ, _+_, _≤_, _<_}
+use Prim.Native.Nat.{ℕ, _+_, _≤_}
 use native.Mathlib.Omega.{arith}
 use borrow.Author.Tests.{ne-eqb, lt-ltb}
 use Rattle.keys.specs.declared.Key.{Key}
 use Rattle.records.specs.declared.Header.{Header}
-use Rattle.records.specs.declared.Node.{Node}
 use Rattle.records.specs.Records.{nodeOf}
 use Rattle.remove_steps.specs.Steps.{siblingOf}
 use Rattle.remove.specs.declared.Plan.the-variants.{Cut}
@@ -20,60 +18,9 @@ use Rattle.trees.specs.Nodes.{In}
 use Rattle.trees.specs.Lookup.{reach}
 use Rattle.trees.specs.Remove.{hit, close, remove}
 use Rattle.trees.specs.Changes.{spot, in-spot, top-remove}
-use Rattle.accepted.specs.Rules.{Holds, leafNode, innerNode}
-use Rattle.accepted.specs.Held.{node-passes, kids-pass, once}
-use Rattle.accepted.specs.Frame.{holds-kept}
-
--- an inner node's record over its sides
-abbrev pub forkNode : ℕ → Key → ℕ → Bool → ℕ → ℕ → Node
-forkNode parent key p true near far = innerNode parent key p far near
-forkNode parent key p false near far = innerNode parent key p near far
-
--- what an image that holds a fork holds, over its sides
-pub record Fork (h : Header) (ws : List ℕ) (parent low i : ℕ) (key : Key) (p : ℕ) (side : Bool) (near far : Tree) : Type 0 where
-  pub index-some : 1 ≤ i
-  pub index-used : i < h .nodes .bump
-  pub here : nodeOf ws i ≡ forkNode parent key p side (top near) (top far)
-  pub rises : low ≤ p
-  pub short : p < 128
-  pub two : top near ≢ top far
-  pub on-near : Holds h ws i (p + 1) near
-  pub on-far : Holds h ws i (p + 1) far
-
-pub fork-held : (h : Header) (ws : List ℕ) (parent low i : ℕ) (key : Key) (p : ℕ) (side : Bool) (near far : Tree)
-    → Holds h ws parent low (fork i key p side near far) → Fork h ws parent low i key p side near far
-unfolding Holds
-fork-held h ws parent low i key p true near far k =
-    record { index-some = k .index-some; index-used = k .index-used; here = k .here; rises = k .rises; short = k .short; two = λ e. k .two (sym e); on-near = k .on-right; on-far = k .on-left }
-fork-held h ws parent low i key p false near far k =
-    record { index-some = k .index-some; index-used = k .index-used; here = k .here; rises = k .rises; short = k .short; two = k .two; on-near = k .on-left; on-far = k .on-right }
-
-pub held-fork : (h : Header) (ws : List ℕ) (parent low i : ℕ) (key : Key) (p : ℕ) (side : Bool) (near far : Tree)
-    → Fork h ws parent low i key p side near far → Holds h ws parent low (fork i key p side near far)
-unfolding Holds
-held-fork h ws parent low i key p true near far k =
-    record { index-some = k .index-some; index-used = k .index-used; here = k .here; rises = k .rises; short = k .short; two = λ e. k .two (sym e); on-left = k .on-far; on-right = k .on-near }
-held-fork h ws parent low i key p false near far k =
-    record { index-some = k .index-some; index-used = k .index-used; here = k .here; rises = k .rises; short = k .short; two = k .two; on-left = k .on-near; on-right = k .on-far }
-
-module _ (i : ℕ) (key : Key) (p : ℕ) where
-  in-node : (side : Bool) (near far : Tree) → In i (fork i key p side near far)
-  in-node true near far = inl refl
-  in-node false near far = inl refl
-
-  pub in-near : (side : Bool) (near far : Tree) (y : ℕ) → In y near → In y (fork i key p side near far)
-  in-near true near far y q = inr (inr q)
-  in-near false near far y q = inr (inl q)
-
-  in-far : (side : Bool) (near far : Tree) (y : ℕ) → In y far → In y (fork i key p side near far)
-  in-far true near far y q = inr (inl q)
-  in-far false near far y q = inr (inr q)
-
-  -- no node stands twice
-  pub fork-once : (h : Header) (ws : List ℕ) (parent low : ℕ) (side : Bool) (near far : Tree) → Holds h ws parent low (fork i key p side near far)
-      → (In i near → ⊥) × (In i far → ⊥) × ((y : ℕ) → In y near → In y far → ⊥)
-  fork-once h ws parent low true near far k = let o = once h ws parent low (inner i key p far near) k in (o .1, o .0, λ y q z. o .2 y z q)
-  fork-once h ws parent low false near far k = let o = once h ws parent low (inner i key p near far) k in (o .0, o .1, o .2)
+use Rattle.accepted.specs.Rules.{Holds, leafNode}
+use Rattle.accepted.specs.Held.{node-passes, kids-pass}
+use Rattle.accepted.specs.Forks.{forkNode, Fork, fork-held, in-node, in-near, in-far, fork-once, fork-rebuilt}
 
 -- the subtree t is the parent of the leaf i of the key, which names value record j
 pub record Spot (h : Header) (ws : List ℕ) (key : Key) (i j : ℕ) (t : Tree) : Type 0 where
@@ -139,20 +86,13 @@ module _ (h : Header) (ws : List ℕ) (key : Key) (i j : ℕ) where
   through-fork : (parent low x : ℕ) (a : Key) (q : ℕ) (side : Bool) (near far u near′ : Tree) → Holds h ws parent low (fork x a q side near far) → top near′ ≡ top near
       → ((y : ℕ) → In y u → In y near) → Way h ws key i j x (q + 1) near u near′ → Way h ws key i j parent low (fork x a q side near far) u (fork x a q side near′ far)
   through-fork parent low x a q side near far u near′ k e within way =
-      let f = fork-held h ws parent low x a q side near far k in
       let o = fork-once x a q h ws parent low side near far k in
       record {
         at = way .at;
-        rebuilt = λ g vs b c kept holds. held-fork g vs parent low x a q side near′ far (record {
-          index-some = f .index-some;
-          index-used = omega (arith, f .index-used);
-          here = kept x (in-node x a q side near far) (λ z. o .0 (within x z)) ∙ f .here ∙ ap (λ (y : ℕ). forkNode parent a q side y (top far)) (sym e);
-          rises = f .rises;
-          short = f .short;
-          two = λ z. f .two (sym e ∙ z);
-          on-near = way .rebuilt g vs b c (λ y z d. kept y (in-near x a q side near far y z) d) holds;
-          on-far = holds-kept h g ws vs b c x (q + 1) far (λ y z. kept y (in-far x a q side near far y z) (λ d. o .2 y (within y d) z)) (f .on-far);
-        });
+        rebuilt = λ g vs b c kept holds. fork-rebuilt h g ws vs b c parent low x a q side near near′ far k e
+            (kept x (in-node x a q side near far) (λ z. o .0 (within x z)))
+            (λ y z. kept y (in-far x a q side near far y z) (λ d. o .2 y (within y d) z))
+            (way .rebuilt g vs b c (λ y z d. kept y (in-near x a q side near far y z) d) holds);
       }
 
   -- a key that is reached, and is not the lone leaf's, has its leaf below a node

@@ -20,12 +20,12 @@ use Rattle.arena_laws.specs.Taken.{remove-length, remove-others, remove-counts}
 use Rattle.records.specs.declared.Node.{Node}
 use Rattle.records.specs.declared.Content.{Content}
 use Rattle.records.specs.declared.ValueRecord.{ValueRecord}
-use Rattle.records.specs.Records.{headerOf, nodeOf, contentOf, valueRecordOf}
+use Rattle.records.specs.Records.{headerOf, nodeOf, valueRecordOf}
 use Rattle.records.specs.Writes.{contentAt, setContent}
 use Rattle.views.specs.Words.{wide-same}
 use Rattle.views.specs.Small.{Small, FitsContent, small-register, small-removed, small-content}
 use Rattle.views.specs.Nodes.{Same, changed, withField, withContent, nodes-lie, node-register, node-content, node-removed, node-value-removed, content-others}
-use Rattle.views.specs.Values.{RoomForAll, altered, withLink, values-lie, value-removed, value-register, value-content, value-node-removed}
+use Rattle.views.specs.Values.{RoomForAll, withLink, values-lie, value-removed, value-register, value-content, value-node-removed}
 use Rattle.views.specs.Header.{register-top, register-nodes, register-values, content-top, content-nodes, content-values, content-length, node-removed-apart, value-removed-apart}
 
 -- a word of the records at or above the bumps b of the nodes and c of the value records
@@ -161,7 +161,7 @@ module _ {m n b c : ℕ} (bounds : Bounds m n b c) (ws : List ℕ) (room : RoomF
       out k (inr u) = λ e. omega (arith, bounds .most, bounds .few)
 
   pub value-freed : (j head : ℕ) → 1 ≤ j → j < c → countsOf (Values n m) ws .head ≡ head
-      → Step m n b c ws (removeImage (Values n m) ws j) (λ y x. x) (altered j (withLink head)) (λ x. x) (freedCounts j)
+      → Step m n b c ws (removeImage (Values n m) ws j) (λ y x. x) (changed j (withLink head)) (λ x. x) (freedCounts j)
   unfolding recordAt headerAt capacityOf
   value-freed j head l h e =
       let inside : Inside (Values n m) j = record { low = l; high = omega (arith, bounds .most-values) } in
@@ -221,25 +221,6 @@ header-after {m} {n} {b} {c} {ws} {vs} s =
     let root : getD vs 2 0 ≡ getD ws 2 0 = s .first 2 (omega arith) (omega arith) in
     let more : getD vs 3 0 ≡ getD ws 3 0 = s .first 3 (omega arith) (omega arith) in
     λ ι. record { padding0 = padding ι; root = record { 0 = root ι }; padding1 = more ι; nodes = s .node-counts ι; values = s .value-counts ι }
-
--- ---- what is read from small words fits
-
-wide-fits : (ws : List ℕ) → Small ws → (k : ℕ) → wideAt ws k < 2 ^ 64
-unfolding wideAt
-wide-fits ws small k = omega (arith, small k, small (k + 1))
-
-pub content-fits : (ws : List ℕ) → Small ws → (y : ℕ) → FitsContent (contentOf (nodeOf ws y))
-unfolding nodeOf
-content-fits ws small y =
-    record {
-      key-fits = record { high-fits = wide-fits ws small (nodeAt y + 4 + 2); low-fits = wide-fits ws small (nodeAt y + 4) };
-      prefix-fits = wide-fits ws small (nodeAt y + 8);
-      padding-fits = wide-fits ws small (nodeAt y + 10);
-    }
-
-pub value-fits : (ws : List ℕ) → Small ws → (y : ℕ) → nodeOf ws y .value .0 < 2 ^ 32
-unfolding nodeOf
-value-fits ws small y = small (nodeAt y + 3)
 
 -- ---- the counts after a removal
 

@@ -21,7 +21,7 @@ use Rattle.descent.specs.Descent.{isInner}
 use Rattle.remove_steps.specs.Steps.{unhung, leafRemoved, contentMoved, valueMoved, kidsMoved, placeFreed, migrated}
 use Rattle.views.specs.Small.{FitsContent}
 use Rattle.views.specs.Nodes.{changed, withField, withContent}
-use Rattle.views.specs.Values.{RoomForAll, altered, withLink}
+use Rattle.views.specs.Values.{RoomForAll, withLink}
 use Rattle.taking.specs.Step.{Step, Quiet, Bounds, freedCounts, joined, stays, register-step, register-any, content-step, node-freed, value-freed, room-after}
 
 -- ---- a node's registers are its record's
@@ -112,7 +112,7 @@ module _ {m n b c : ℕ} (bounds : Bounds m n b c) where
       → nodeOf ws i .parent .0 ≡ p → nodeOf ws i .value .0 ≡ j → 1 ≤ i → i < b → 1 ≤ j → j < c
       → countsOf (Nodes n) ws .head ≡ head → countsOf (Values n m) ws .head ≡ value-head
       → Quiet m n b c (clearRegister (Nodes n) ws i field.Value) (unhung n (clearRegister (Nodes n) ws i field.Value) i p) unhang
-      → Step m n b c ws (leafRemoved m n ws i) (frees unhang i head) (altered j (withLink value-head)) (freedCounts i) (freedCounts j)
+      → Step m n b c ws (leafRemoved m n ws i) (frees unhang i head) (changed j (withLink value-head)) (freedCounts i) (freedCounts j)
   unfolding leafRemoved
   freed-step ws room i p j head value-head unhang above names l h l′ h′ e e′ apart =
       rw (above, names) (joined three (node-freed bounds (removeImage (Values n m) us j) (room-after three room) i head l h (ap (λ (x : Counts). x .head) (three .node-counts) ∙ e)))
@@ -123,7 +123,7 @@ module _ {m n b c : ℕ} (bounds : Bounds m n b c) where
       two : Quiet m n b c ws us (λ y x. unhang y (changed i (withField field.Value 0) y x))
       two = joined (register-step bounds ws room i 0 field.Value l h (omega arith)) apart
 
-      three : Step m n b c ws (removeImage (Values n m) us j) (λ y x. unhang y (changed i (withField field.Value 0) y x)) (altered j (withLink value-head)) (λ x. x) (freedCounts j)
+      three : Step m n b c ws (removeImage (Values n m) us j) (λ y x. unhang y (changed i (withField field.Value 0) y x)) (changed j (withLink value-head)) (λ x. x) (freedCounts j)
       three = joined two (value-freed bounds us (room-after two room) j value-head l′ h′ (ap (λ (x : Counts). x .head) (two .value-counts) ∙ e′))
 
   -- ---- the sibling s moves into the parent p

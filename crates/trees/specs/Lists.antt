@@ -1,5 +1,5 @@
 -- Lists: a fact of every element, and a fact of every element and each later one.
-use mathlib.Core.List.{List, [], _∷_, _++_}
+use mathlib.Core.List.{List, [], _∷_, _++_, map}
 
 abbrev pub All : {A : Type 0} → (A → Type 0) → List A → Type 0
 All P [] = Unit {0}
@@ -19,6 +19,10 @@ pub all-map : {A : Type 0} {P Q : A → Type 0} → ((a : A) → P a → Q a) �
 all-map f [] h = tt
 all-map f (x ∷ xs) h = (f x (h .0), all-map f xs (h .1))
 
+pub all-both : {A : Type 0} {P Q R : A → Type 0} → ((a : A) → P a → Q a → R a) → (xs : List A) → All P xs → All Q xs → All R xs
+all-both f [] h k = tt
+all-both f (x ∷ xs) h k = (f x (h .0) (k .0), all-both f xs (h .1) (k .1))
+
 pub all-append : {A : Type 0} (P : A → Type 0) (xs ys : List A) → All P xs → All P ys → All P (xs ++ ys)
 all-append P [] ys h k = k
 all-append P (x ∷ xs) ys h k = (h .0, all-append P xs ys (h .1) k)
@@ -27,7 +31,15 @@ pub all-parts : {A : Type 0} (P : A → Type 0) (xs ys : List A) → All P (xs +
 all-parts P [] ys h = (tt, h)
 all-parts P (x ∷ xs) ys h = let k = all-parts P xs ys (h .1) in ((h .0, k .0), k .1)
 
+pub all-mapped : {A B : Type 0} (P : B → Type 0) (f : A → B) (xs : List A) → All (λ x. P (f x)) xs → All P (map f xs)
+all-mapped P f [] h = tt
+all-mapped P f (x ∷ xs) h = (h .0, all-mapped P f xs (h .1))
+
 -- ---- a fact of every pair
+
+pub pairs-mapped : {A B : Type 0} (R : B → B → Type 0) (f : A → B) (xs : List A) → Pairs (λ x y. R (f x) (f y)) xs → Pairs R (map f xs)
+pairs-mapped R f [] h = tt
+pairs-mapped R f (x ∷ xs) h = (all-mapped (R (f x)) f xs (h .0), pairs-mapped R f xs (h .1))
 
 pub pairs-append : {A : Type 0} (R : A → A → Type 0) (xs ys : List A) → Pairs R xs → Pairs R ys → Across R xs ys → Pairs R (xs ++ ys)
 pairs-append R [] ys h k b = k

@@ -1,7 +1,7 @@
 -- Lookup "descends by the key's bit at the prefix length; it stops at the first node whose prefix the key does not share and answers absent. At a leaf the
 -- whole key is compared. Remove compares no prefix on its way, only the leaf" (document 01, "Steps of each call"). Both find what the ascending list
 -- holds; and the smallest and the largest key are reached by turning always to one side.
-use mathlib.Core.Path.{_≡_, refl, sym, _∙_}
+use mathlib.Core.Path.{_≡_, refl, sym, ap, _∙_}
 use mathlib.Core.Logic.{_≢_, inl, inr}
 use mathlib.Core.Bool.{Bool, true, false, not, cond}
 use mathlib.Core.Option.{Option, none, some, Option·map}
@@ -77,13 +77,48 @@ strangers k n p b t s e h = each-map (λ a x. other-side k n p b s (λ f. differ
     differs true e = unequal false e refl
     differs false e = unequal true refl e
 
+-- ---- a key that is held, and one that is not
+
+abbrev pub is-some : {A : Type 0} → Option A → Bool
+is-some none = false
+is-some (some x) = true
+
+pub held-found : {A : Type 0} (k : Key) (es : List (Key × A)) → held k es ≡ is-some (find k es)
+held-found k [] = refl
+held-found k (e ∷ es) = go (same k (e .0)) (held-found k es)
+  where
+    go : (b : Bool) → held k es ≡ is-some (find k es) → cond b true (held k es) ≡ is-some (cond b (some (e .1)) (find k es))
+    go true h = refl
+    go false h = h
+
+-- what holds of every entry's value holds of one that is found
+pub find-all : {A : Type 0} (P : A → Type 0) (k : Key) (es : List (Key × A)) (v : A) → All (λ e. P (e .1)) es → find k es ≡ some v → P v
+find-all P k [] v a e = let z : _≡_ {A = ℕ} 0 1 = cc in absurd (omega arith)
+find-all P k (x ∷ es) v a e = go (same k (x .0)) e (find-all P k es v (a .1))
+  where
+    go : (b : Bool) → cond b (some (x .1)) (find k es) ≡ some v → (find k es ≡ some v → P v) → P v
+    go true q f = let same-value : x .1 ≡ v = cc in rw (sym same-value) (a .0)
+    go false q f = f q
+
+-- a key that is not held is none of the keys
+pub unheld : {A : Type 0} (k : Key) (es : List (Key × A)) → held k es ≡ false → All (λ e. Other k (e .0)) es
+unheld k [] e = tt
+unheld k (x ∷ es) e = go (same k (x .0)) e (unheld k es)
+  where
+    go : (b : Bool) → cond b true (held k es) ≡ false → (held k es ≡ false → All (λ e. Other k (e .0)) es) → (b ≡ false) × All (λ e. Other k (e .0)) es
+    go true q f = absurd (unequal true refl q)
+    go false q f = (refl, f q)
+
+pub unfound : {A : Type 0} (k : Key) (es : List (Key × A)) → find k es ≡ none → All (λ e. Other k (e .0)) es
+unfound k es e = unheld k es (held-found k es ∙ ap is-some e)
+
 -- ---- find beside keys that k is not
 
 pub held-none : {A : Type 0} (k : Key) (es : List (Key × A)) → All (λ e. Other k (e .0)) es → held k es ≡ false
 held-none k [] h = refl
 held-none k (e ∷ es) h = rw (h .0) (held-none k es (h .1))
 
-find-none : {A : Type 0} (k : Key) (es : List (Key × A)) → All (λ e. Other k (e .0)) es → find k es ≡ none
+pub find-none : {A : Type 0} (k : Key) (es : List (Key × A)) → All (λ e. Other k (e .0)) es → find k es ≡ none
 find-none k [] h = refl
 find-none k (e ∷ es) h = rw (h .0) (find-none k es (h .1))
 
@@ -129,7 +164,7 @@ lookup-places k (inner i a p l r) o = go (test≤ p (shared k a)) (lookup-places
 abbrev pub valueOf : Option (ℕ × ℕ) → Option ℕ
 valueOf o = Option·map (λ n. n .1) o
 
-find-map : {A B : Type 0} (k : Key) (g : A → B) (es : List (Key × A)) → find k (map (λ e. (e .0, g (e .1))) es) ≡ Option·map g (find k es)
+pub find-map : {A B : Type 0} (k : Key) (g : A → B) (es : List (Key × A)) → find k (map (λ e. (e .0, g (e .1))) es) ≡ Option·map g (find k es)
 find-map k g [] = refl
 find-map k g (e ∷ es) = go (same k (e .0)) (find-map k g es)
   where

@@ -11,7 +11,7 @@ use Rattle.keys.specs.declared.Key.{Key}
 use Rattle.keys.specs.Number.{Fits}
 use Rattle.trees.specs.Keys.{Bit, testb}
 use Rattle.trees.specs.Ends.{endOf}
-use Rattle.trees.specs.Tree.{Tree, leaf, entries, gather-map, Ordered, Ascending, ascending}
+use Rattle.trees.specs.Tree.{Tree, leaf, entries, gather-map, Ordered, Rising, ascending}
 use Rattle.trees.specs.Lookup.{find, held, lookup, reach, valueOf, lookup-find, reach-find, outermost, outermost-entry}
 use Rattle.trees.specs.Insert.{insert, put, ordered-insert, length-put, entries-insert}
 use Rattle.trees.specs.Remove.{hit, remove, erase, ordered-remove, length-erase, erase-hit, entries-remove}
@@ -74,7 +74,7 @@ map-remove-ordered k (some t) o = go (hit k t)
 
 -- ---- the list decides
 
-pub map-ascending : (m : Map) → OrderedMap m → Ascending (listOf m)
+pub map-ascending : (m : Map) → OrderedMap m → Rising (listOf m)
 map-ascending none o = tt
 map-ascending (some t) o = ascending t o
 

@@ -79,7 +79,7 @@ ordered-remove k (inner i a p l r) o =
 
 -- ---- the list's remove, beside keys that k is not
 
-erase-none : {A : Type 0} (k : Key) (es : List (Key × A)) → All (λ e. Other k (e .0)) es → erase k es ≡ es
+pub erase-none : {A : Type 0} (k : Key) (es : List (Key × A)) → All (λ e. Other k (e .0)) es → erase k es ≡ es
 erase-none k [] h = refl
 erase-none k (e ∷ es) h = rw (h .0, erase-none k es (h .1))
 

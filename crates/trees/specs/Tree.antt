@@ -152,17 +152,17 @@ pub ordered-fork : (i : ℕ) {k : Key} {p : ℕ} (b : Bool) (near far : Tree) �
 ordered-fork i false near far f h n m x y = record { fits = f; low = h; left = n; right = m; onLeft = x; onRight = y }
 ordered-fork i true near far f h n m x y = record { fits = f; low = h; left = m; right = n; onLeft = y; onRight = x }
 
-abbrev pub Before : Key × ℕ → Key × ℕ → Type 0
+abbrev pub Before : {A : Type 0} → Key × A → Key × A → Type 0
 Before x y = numberOf (x .0) < numberOf (y .0)
 
-abbrev pub Ascending : List (Key × ℕ) → Type 0
-Ascending es = Pairs Before es
+abbrev pub Rising : {A : Type 0} → List (Key × A) → Type 0
+Rising es = Pairs Before es
 
 pub sides : (k : Key) (p : ℕ) {a b : Key} → Fits a → Side k p false a → Side k p true b → numberOf a < numberOf b
 sides k p {a} {b} f x y = order b f (omega (arith, x .shares, y .shares, turn k a, ultra a k b)) (x .turns) (y .turns)
 
 -- The entries of an ordered tree stand in strictly ascending order of their keys.
-pub ascending : (t : Tree) → Ordered t → Ascending (entries t)
+pub ascending : (t : Tree) → Ordered t → Rising (entries t)
 ascending (leaf i k v) o = (tt, tt)
 ascending (inner i k p l r) o =
     pairs-append Before (entries l) (entries r) (ascending l (o .onLeft)) (ascending r (o .onRight))

@@ -1,28 +1,27 @@
 -- The header after a store: its first four words, and the counts of each arena. What a step of an arena does to its own counts is in `node_allocator`; here is everything that leaves them.
-use mathlib.Core.Path.{_≡_, refl, sym, ap, _∙_}
+use mathlib.Core.Path.{_≡_, refl, sym, ap}
 use mathlib.Core.List.{List}
 use mathlib.Core.Logic.{_≢_, _⊎_, inl, inr}
 use mathlib.Core.Bool.{Bool, true, false, cond}
 use Prim.Native.Nat.{ℕ, _+_, _-_, _*_, _≤_, _<_}
 use native.Mathlib.Omega.{arith}
 use lib.ListN.{length, getD, set, length-set}
-use lib.Seq.{getD-set-same, getD-set-other}
+use lib.Seq.{getD-set-same}
 use Rattle.words.specs.Tests.{either-way}
-use Rattle.words.specs.Wide.{wideAt, setWide, set-wide-others, set-wide-length}
-use Rattle.node_allocator.specs.declared.Arena.{Arena}
+use Rattle.words.specs.Wide.{wideAt, set-wide-length}
 use Rattle.node_allocator.specs.declared.Arena.the-variants.{Nodes, Values}
 use Rattle.node_allocator.specs.declared.Field.{Field}
 use Rattle.node_allocator.specs.Layout.{nodeAt, valueAt, headerAt, recordAt, capacityOf, registerOf, inside}
 use Rattle.node_allocator.specs.Steps.{countsOf, setRegister, addImage, removeImage}
 use Rattle.arena_laws.specs.Places.{Inside, is-inside, register-small}
-use Rattle.arena_laws.specs.Laws.{Outside, register-others, register-length}
+use Rattle.arena_laws.specs.Laws.{Outside, register-others, register-length, counts-same, counts-set}
 use Rattle.arena_laws.specs.Taken.{add-others, remove-others, add-length, remove-length}
 use Rattle.records.specs.declared.Header.{Header}
 use Rattle.records.specs.declared.Content.{Content}
 use Rattle.records.specs.declared.Value.{Value}
 use Rattle.records.specs.Records.{headerOf}
 use Rattle.records.specs.Writes.{contentAt, setContent, valueSetAt, setValue}
-use Rattle.views.specs.Nodes.{Same, content-others}
+use Rattle.views.specs.Nodes.{Same, value-others, content-others}
 
 -- ---- the header by its parts
 
@@ -48,15 +47,6 @@ header-same n vs ws f g =
     let g2 = g (12 * n + 8 + 2) (omega arith) (omega arith) in
     let g3 = g (12 * n + 8 + 3) (omega arith) (omega arith) in
     simp (e0, e1, e2, e3, e4, e5, e6, e7, g0, g1, g2, g3)
-
-pub counts-kept : (a : Arena) (vs ws : List ℕ) → Same vs ws (headerAt a) (headerAt a + 4) → countsOf a vs ≡ countsOf a ws
-unfolding countsOf wideAt
-counts-kept a vs ws f =
-    let zero : getD vs (headerAt a) 0 ≡ getD ws (headerAt a) 0 = f (headerAt a) (omega arith) (omega arith) in
-    let one : getD vs (headerAt a + 1) 0 ≡ getD ws (headerAt a + 1) 0 = f (headerAt a + 1) (omega arith) (omega arith) in
-    let two : getD vs (headerAt a + 2) 0 ≡ getD ws (headerAt a + 2) 0 = f (headerAt a + 2) (omega arith) (omega arith) in
-    let three : getD vs (headerAt a + 3) 0 ≡ getD ws (headerAt a + 3) 0 = f (headerAt a + 3) (omega arith) (omega arith) in
-    simp (zero, one, two, three)
 
 -- ---- the words that a store leaves: `From` is before the nodes' header, or between the arenas
 
@@ -88,11 +78,11 @@ module _ (n : ℕ) (ws : List ℕ) where
 
     pub register-nodes : countsOf (Nodes n) (setRegister (Nodes n) ws i v f) ≡ countsOf (Nodes n) ws
     unfolding headerAt
-    register-nodes = counts-kept (Nodes n) (setRegister (Nodes n) ws i v f) ws (λ k a b. register-away i v f h l k (inl (omega arith)))
+    register-nodes = counts-same (Nodes n) ws (setRegister (Nodes n) ws i v f) (λ k a b. register-away i v f h l k (inl (omega arith)))
 
     pub register-values : (m : ℕ) → countsOf (Values n m) (setRegister (Nodes n) ws i v f) ≡ countsOf (Values n m) ws
     unfolding headerAt
-    register-values m = counts-kept (Values n m) (setRegister (Nodes n) ws i v f) ws (λ k a b. register-away i v f h l k (inr (omega arith)))
+    register-values m = counts-same (Values n m) ws (setRegister (Nodes n) ws i v f) (λ k a b. register-away i v f h l k (inr (omega arith)))
 
   module _ (i : ℕ) (c : Content) where
     pub content-top : Same (setContent n ws i c) ws 0 4
@@ -100,19 +90,15 @@ module _ (n : ℕ) (ws : List ℕ) where
 
     pub content-nodes : countsOf (Nodes n) (setContent n ws i c) ≡ countsOf (Nodes n) ws
     unfolding headerAt
-    content-nodes = counts-kept (Nodes n) (setContent n ws i c) ws (λ k a b. content-away i c k (inl (omega arith)))
+    content-nodes = counts-same (Nodes n) ws (setContent n ws i c) (λ k a b. content-away i c k (inl (omega arith)))
 
     pub content-values : (m : ℕ) → countsOf (Values n m) (setContent n ws i c) ≡ countsOf (Values n m) ws
     unfolding headerAt
-    content-values m = counts-kept (Values n m) (setContent n ws i c) ws (λ k a b. content-away i c k (inr (omega arith)))
+    content-values m = counts-same (Values n m) ws (setContent n ws i c) (λ k a b. content-away i c k (inr (omega arith)))
 
     pub content-length : length (setContent n ws i c) ≡ length ws
     unfolding setContent
-    content-length = go (inside (Nodes n) i)
-      where
-        go : (b : Bool) → length (cond b (contentAt ws (recordAt (Nodes n) i) c) ws) ≡ length ws
-        go true = simp set-wide-length
-        go false = refl
+    content-length = either-way (λ vs. length vs ≡ length ws) (inside (Nodes n) i) _ ws (simp set-wide-length) refl
 
   -- ---- a value that is stored
 
@@ -123,49 +109,39 @@ module _ (n : ℕ) (ws : List ℕ) where
       where
         go : (b : Bool) → inside (Values n m) j ≡ b → getD (cond b (valueSetAt ws (valueAt n j) v) ws) k 0 ≡ getD ws k 0
         go false e = refl
-        go true e =
-            let named = is-inside (Values n m) j e in
-            set-wide-others (setWide ws (valueAt n j + 4) (v .first)) (valueAt n j + 6) (v .second) k (λ q. omega (arith, named .low)) (λ q. omega (arith, named .low))
-            ∙ set-wide-others ws (valueAt n j + 4) (v .first) k (λ q. omega (arith, named .low)) (λ q. omega (arith, named .low))
+        go true e = value-others ws (valueAt n j) v k (inl (omega (arith, is-inside (Values n m) j e .low)))
 
     -- past the record of a value too
     pub value-beyond : (k : ℕ) → valueAt n j + 8 ≤ k → getD (setValue m n ws j v) k 0 ≡ getD ws k 0
     unfolding setValue recordAt
     value-beyond k h =
-        either-way (λ us. getD us k 0 ≡ getD ws k 0) (inside (Values n m) j) (valueSetAt ws (valueAt n j) v) ws
-        (set-wide-others (setWide ws (valueAt n j + 4) (v .first)) (valueAt n j + 6) (v .second) k (λ q. omega arith) (λ q. omega arith)
-        ∙ set-wide-others ws (valueAt n j + 4) (v .first) k (λ q. omega arith) (λ q. omega arith))
-        refl
+        either-way (λ us. getD us k 0 ≡ getD ws k 0) (inside (Values n m) j) (valueSetAt ws (valueAt n j) v) ws (value-others ws (valueAt n j) v k (inr h)) refl
 
     pub value-top : Same (setValue m n ws j v) ws 0 4
     value-top k a b = value-away k (omega arith)
 
     pub value-nodes : countsOf (Nodes n) (setValue m n ws j v) ≡ countsOf (Nodes n) ws
     unfolding headerAt
-    value-nodes = counts-kept (Nodes n) (setValue m n ws j v) ws (λ k a b. value-away k (omega arith))
+    value-nodes = counts-same (Nodes n) ws (setValue m n ws j v) (λ k a b. value-away k (omega arith))
 
     pub value-values : countsOf (Values n m) (setValue m n ws j v) ≡ countsOf (Values n m) ws
     unfolding headerAt
-    value-values = counts-kept (Values n m) (setValue m n ws j v) ws (λ k a b. value-away k (omega arith))
+    value-values = counts-same (Values n m) ws (setValue m n ws j v) (λ k a b. value-away k (omega arith))
 
     pub value-length : length (setValue m n ws j v) ≡ length ws
     unfolding setValue
-    value-length = go (inside (Values n m) j)
-      where
-        go : (b : Bool) → length (cond b (valueSetAt ws (recordAt (Values n m) j) v) ws) ≡ length ws
-        go true = simp set-wide-length
-        go false = refl
+    value-length = either-way (λ vs. length vs ≡ length ws) (inside (Values n m) j) _ ws (simp set-wide-length) refl
 
   -- ---- the root
 
   module _ (r : ℕ) where
     pub root-nodes : countsOf (Nodes n) (set ws 2 r) ≡ countsOf (Nodes n) ws
     unfolding headerAt
-    root-nodes = counts-kept (Nodes n) (set ws 2 r) ws (λ k a b. getD-set-other ws 2 k r 0 (λ e. omega arith))
+    root-nodes = counts-set (Nodes n) ws 2 r (inl (omega arith))
 
     pub root-values : (m : ℕ) → countsOf (Values n m) (set ws 2 r) ≡ countsOf (Values n m) ws
     unfolding headerAt
-    root-values m = counts-kept (Values n m) (set ws 2 r) ws (λ k a b. getD-set-other ws 2 k r 0 (λ e. omega arith))
+    root-values m = counts-set (Values n m) ws 2 r (inl (omega arith))
 
   -- ---- a step of one arena leaves the other's counts, and the first four words
 
@@ -174,14 +150,14 @@ module _ (n : ℕ) (ws : List ℕ) where
     unfolding headerAt recordAt
     nodes-step high others = (
       λ k a b. others k (inl (omega arith)) (λ e. omega arith),
-      counts-kept (Values n m) vs ws (λ k a b. others k (inr (omega arith)) (λ e. omega arith)),
+      counts-same (Values n m) ws vs (λ k a b. others k (inr (omega arith)) (λ e. omega arith)),
     )
 
     values-step : ((k : ℕ) → Outside (Values n m) k → k ≢ recordAt (Values n m) i → getD vs k 0 ≡ getD ws k 0) → Same vs ws 0 4 × (countsOf (Nodes n) vs ≡ countsOf (Nodes n) ws)
     unfolding headerAt recordAt
     values-step others = (
       λ k a b. others k (inl (omega arith)) (λ e. omega arith),
-      counts-kept (Nodes n) vs ws (λ k a b. others k (inl (omega arith)) (λ e. omega arith)),
+      counts-same (Nodes n) ws vs (λ k a b. others k (inl (omega arith)) (λ e. omega arith)),
     )
 
   pub node-added-apart : (m : ℕ) → Inside (Nodes n) (countsOf (Nodes n) ws .head)

@@ -2,7 +2,7 @@
 use mathlib.Core.Path.{_≡_, refl, sym, ap, _∙_}
 use mathlib.Core.List.{List}
 use mathlib.Core.Logic.{_≢_, _⊎_, inl, inr, ⊎-elim}
-use mathlib.Core.Bool.{Bool, true, false, cond, _&&_}
+use mathlib.Core.Bool.{Bool, cond, _&&_}
 use Prim.Native.Nat.{ℕ, _+_, _-_, _*_, _%_, _^_, _≤_, _<_}
 use native.Mathlib.Omega.{arith}
 use native.Mathlib.Decide.{ℕ-discrete, decLe}
@@ -11,6 +11,7 @@ use lib.ListN.{length, getD, set, length-set}
 use lib.Seq.{getD-set-same, getD-set-other}
 use lib.Dec.{eqb}
 use borrow.Author.Tests.{eq-eqb, ne-eqb}
+use Rattle.words.specs.Tests.{either-way}
 use Rattle.words.specs.Wide.{wideAt, setWide, wide-stored, set-wide-length, set-wide-others}
 use Rattle.keys.specs.declared.Key.{Key}
 use Rattle.node_allocator.specs.declared.Arena.{Arena}
@@ -125,6 +126,15 @@ register-one g vs ws y v e f = go g e f
 
 -- ---- the content of the node that begins at k
 
+-- a value is stored at its own four words
+pub value-others : (ws : List ℕ) (k : ℕ) (v : Value) (j : ℕ) → (j < k + 4) ⊎ (k + 8 ≤ j) → getD (valueSetAt ws k v) j 0 ≡ getD ws j 0
+value-others ws k v j o =
+    set-wide-others (setWide ws (k + 4) (v .first)) (k + 6) (v .second) j (λ e. out (omega arith) (omega arith)) (λ e. out (omega arith) (omega arith))
+    ∙ set-wide-others ws (k + 4) (v .first) j (λ e. out (omega arith) (omega arith)) (λ e. out (omega arith) (omega arith))
+  where
+    out : k + 4 ≤ j → j < k + 8 → ⊥
+    out h l = ⊎-elim (λ (a : j < k + 4). omega arith) (λ (a : k + 8 ≤ j). omega arith) o
+
 module _ (ws : List ℕ) (k : ℕ) (c : Content) where
   pub content-others : (j : ℕ) → (j < k + 4) ⊎ (k + 12 ≤ j) → getD (contentAt ws k c) j 0 ≡ getD ws j 0
   content-others j o =
@@ -194,9 +204,15 @@ pub nodes-lie : (n : ℕ) (ws : List ℕ) → RoomFor n ws → Lies (Nodes n) (l
 unfolding recordAt capacityOf
 nodes-lie n ws h = record { room = omega arith }
 
--- node y after a part of node i is changed by `change`
-abbrev pub changed : ℕ → (Node → Node) → ℕ → Node → Node
+-- record y after a part of record i is changed by `change`
+abbrev pub changed : {A : Type 0} → ℕ → (A → A) → ℕ → A → A
 changed i change y x = cond (eqb y i) (change x) x
+
+pub changed-there : {A : Type 0} (i : ℕ) (change : A → A) (x : A) → changed i change i x ≡ change x
+changed-there i change x = ap (λ (b : Bool). cond b (change x) x) (eq-eqb i i refl)
+
+pub changed-other : {A : Type 0} (i : ℕ) (change : A → A) (y : ℕ) (x : A) → y ≢ i → changed i change y x ≡ x
+changed-other i change y x d = ap (λ (b : Bool). cond b (change x) x) (ne-eqb y i d)
 
 module _ (n : ℕ) (ws : List ℕ) (room : RoomFor n ws) (i : ℕ) (named : Inside (Nodes n) i) where
   pub node-register : (v : ℕ) (f : Field) (y : ℕ) → 1 ≤ y → nodeOf (setRegister (Nodes n) ws i v f) y ≡ changed i (withField f v) y (nodeOf ws y)
@@ -280,14 +296,10 @@ module _ (m n : ℕ) (ws : List ℕ) (y : ℕ) (low : 1 ≤ y) (high : y ≤ n) 
   -- so does a value that is stored, and the root
   pub node-value-set : (j : ℕ) (v : Value) → nodeOf (setValue m n ws j v) y ≡ nodeOf ws y
   unfolding setValue recordAt
-  node-value-set j v = go (inside (Values n m) j)
-    where
-      go : (b : Bool) → nodeOf (cond b (valueSetAt ws (valueAt n j) v) ws) y ≡ nodeOf ws y
-      go false = refl
-      go true =
-          node-same (valueSetAt ws (valueAt n j) v) ws y
-          (λ k a b. set-wide-others (setWide ws (valueAt n j + 4) (v .first)) (valueAt n j + 6) (v .second) k (λ e. omega arith) (λ e. omega arith)
-          ∙ set-wide-others ws (valueAt n j + 4) (v .first) k (λ e. omega arith) (λ e. omega arith))
+  node-value-set j v =
+      either-way (λ vs. nodeOf vs y ≡ nodeOf ws y) (inside (Values n m) j) (valueSetAt ws (valueAt n j) v) ws
+      (node-same (valueSetAt ws (valueAt n j) v) ws y (λ k a b. value-others ws (valueAt n j) v k (inl (omega arith))))
+      refl
 
 pub node-root : (ws : List ℕ) (r y : ℕ) → 1 ≤ y → nodeOf (set ws 2 r) y ≡ nodeOf ws y
 node-root ws r y low = node-same (set ws 2 r) ws y (λ k a b. getD-set-other ws 2 k r 0 (λ e. omega arith))

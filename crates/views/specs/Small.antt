@@ -1,4 +1,4 @@
--- Every word stays a 32-bit word: what is stored fits, or is cut to fit.
+-- Every word stays a 32-bit word: what is stored fits, or is cut to fit. What a node of such words holds fits too.
 use mathlib.Core.Path.{_≡_, refl, sym, ap, _∙_}
 use mathlib.Core.List.{List}
 use mathlib.Core.Bool.{Bool, true, false, cond}
@@ -10,15 +10,16 @@ use lib.ListN.{length, getD, set}
 use lib.Seq.{getD-set-same, getD-set-other, set-out}
 use lib.Dec.{eqb}
 use Rattle.words.specs.Tests.{either-way}
-use Rattle.words.specs.Wide.{setWide}
+use Rattle.words.specs.Wide.{wideAt, setWide}
 use Rattle.keys.specs.Number.{Fits}
 use Rattle.node_allocator.specs.declared.Arena.{Arena}
 use Rattle.node_allocator.specs.declared.Field.{Field}
 use Rattle.node_allocator.specs.declared.Field.the-variants as field
-use Rattle.node_allocator.specs.Layout.{headerAt, recordAt, registerOf, inside}
+use Rattle.node_allocator.specs.Layout.{nodeAt, headerAt, recordAt, registerOf, inside}
 use Rattle.node_allocator.specs.Steps.{countsOf, setSize, setHead, getRegister, setRegister, clearRegister, connected, freshTaken, freedTaken, unlinked, addImage, removeImage}
 use Rattle.records.specs.declared.Content.{Content}
 use Rattle.records.specs.declared.Value.{Value}
+use Rattle.records.specs.Records.{nodeOf, contentOf}
 use Rattle.records.specs.Writes.{contentAt, setContent, valueSetAt, setValue}
 
 abbrev pub Small : List ℕ → Type 0
@@ -106,3 +107,18 @@ small-content n ws i c s f =
     (f .prefix-fits))
     (f .padding-fits))
     s
+
+-- ---- what a node holds fits
+
+wide-fits : (ws : List ℕ) (k : ℕ) → Small ws → wideAt ws k < 2 ^ 64
+unfolding wideAt
+wide-fits ws k s = omega (arith, s k, s (k + 1))
+
+pub content-fits : (ws : List ℕ) (i : ℕ) → Small ws → FitsContent (contentOf (nodeOf ws i))
+unfolding nodeOf
+content-fits ws i s =
+    record { key-fits = record { high-fits = wide-fits ws _ s; low-fits = wide-fits ws _ s }; prefix-fits = wide-fits ws _ s; padding-fits = wide-fits ws _ s }
+
+pub value-fits : (ws : List ℕ) (i : ℕ) → Small ws → nodeOf ws i .value .0 < 2 ^ 32
+unfolding nodeOf
+value-fits ws i s = s (nodeAt i + 3)

@@ -11,7 +11,8 @@ use lib.ListN.{length, getD, set, length-set}
 use lib.Seq.{getD-set-same, getD-set-other}
 use lib.Dec.{eqb}
 use borrow.Author.Tests.{eq-eqb, ne-eqb}
-use Rattle.words.specs.Wide.{wideAt, setWide, wide-stored, set-wide-length, set-wide-others}
+use Rattle.words.specs.Tests.{either-way}
+use Rattle.words.specs.Wide.{wideAt, setWide, wide-stored, set-wide-length}
 use Rattle.node_allocator.specs.declared.Arena.the-variants.{Nodes, Values}
 use Rattle.node_allocator.specs.declared.Field.{Field}
 use Rattle.node_allocator.specs.Layout.{nodeAt, valueAt, headerAt, recordAt, capacityOf, registerOf, inside}
@@ -26,17 +27,13 @@ use Rattle.records.specs.Records.{recordFrom, valueRecordOf, valueOf}
 use Rattle.records.specs.Writes.{contentAt, setContent, valueSetAt, setValue}
 use Rattle.views.specs.Words.{wide-same, wide-apart, wide-before}
 use Rattle.views.specs.Links.{add-link, remove-link}
-use Rattle.views.specs.Nodes.{Same, content-others}
+use Rattle.views.specs.Nodes.{Same, value-others, content-others, changed}
 
 abbrev pub withLink : ℕ → ValueRecord → ValueRecord
 withLink v r = record { register0 = v; register1 = r .register1; register2 = r .register2; register3 = r .register3; value = r .value }
 
 abbrev pub withValue : Value → ValueRecord → ValueRecord
 withValue v r = record { register0 = r .register0; register1 = r .register1; register2 = r .register2; register3 = r .register3; value = v }
-
--- record y after a part of record j is changed
-abbrev pub altered : ℕ → (ValueRecord → ValueRecord) → ℕ → ValueRecord → ValueRecord
-altered j change y r = cond (eqb y j) (change r) r
 
 -- ---- a value record is what its eight words are
 
@@ -70,11 +67,11 @@ unfolding recordAt capacityOf
 values-lie m n ws h = record { room = omega arith }
 
 arena-value : (m n : ℕ) (vs ws : List ℕ) (i v : ℕ) → 1 ≤ i → ((k : ℕ) → Outside (Values n m) k → k ≢ recordAt (Values n m) i → getD vs k 0 ≡ getD ws k 0)
-    → getD vs (recordAt (Values n m) i + 0) 0 ≡ v → (y : ℕ) → 1 ≤ y → valueRecordOf n vs y ≡ altered i (withLink v) y (valueRecordOf n ws y)
+    → getD vs (recordAt (Values n m) i + 0) 0 ≡ v → (y : ℕ) → 1 ≤ y → valueRecordOf n vs y ≡ changed i (withLink v) y (valueRecordOf n ws y)
 unfolding recordAt headerAt
 arena-value m n vs ws i v h others link y low = go (ℕ-discrete y i)
   where
-    go : Dec (y ≡ i) → valueRecordOf n vs y ≡ altered i (withLink v) y (valueRecordOf n ws y)
+    go : Dec (y ≡ i) → valueRecordOf n vs y ≡ changed i (withLink v) y (valueRecordOf n ws y)
     go (yes e) =
         let place : valueAt n i + 0 ≡ valueAt n i = omega arith in
         rw (eq-eqb y i e, e)
@@ -84,17 +81,17 @@ arena-value m n vs ws i v h others link y low = go (ℕ-discrete y i)
 module _ (m n : ℕ) (ws : List ℕ) (room : RoomForAll m n ws) where
   pub value-added : Inside (Values n m) (countsOf (Values n m) ws .head)
       → (countsOf (Values n m) ws .head ≡ countsOf (Values n m) ws .bump → getD ws (recordAt (Values n m) (countsOf (Values n m) ws .head) + 0) 0 ≡ 0)
-      → (y : ℕ) → 1 ≤ y → valueRecordOf n (addImage (Values n m) ws) y ≡ altered (countsOf (Values n m) ws .head) (withLink 0) y (valueRecordOf n ws y)
+      → (y : ℕ) → 1 ≤ y → valueRecordOf n (addImage (Values n m) ws) y ≡ changed (countsOf (Values n m) ws .head) (withLink 0) y (valueRecordOf n ws y)
   value-added named blank y low =
       arena-value m n (addImage (Values n m) ws) ws (countsOf (Values n m) ws .head) 0 (named .low) (add-others (Values n m) ws) (add-link (Values n m) ws (values-lie m n ws room) named blank) y low
 
   pub value-removed : (j : ℕ) → Inside (Values n m) j
-      → (y : ℕ) → 1 ≤ y → valueRecordOf n (removeImage (Values n m) ws j) y ≡ altered j (withLink (countsOf (Values n m) ws .head)) y (valueRecordOf n ws y)
+      → (y : ℕ) → 1 ≤ y → valueRecordOf n (removeImage (Values n m) ws j) y ≡ changed j (withLink (countsOf (Values n m) ws .head)) y (valueRecordOf n ws y)
   value-removed j named y low =
       arena-value m n (removeImage (Values n m) ws j) ws j (countsOf (Values n m) ws .head) (named .low) (remove-others (Values n m) ws j) (remove-link (Values n m) ws j (values-lie m n ws room) named) y low
 
   -- a value is stored
-  pub value-set : (j : ℕ) → Inside (Values n m) j → (v : Value) (y : ℕ) → 1 ≤ y → valueRecordOf n (setValue m n ws j v) y ≡ altered j (withValue v) y (valueRecordOf n ws y)
+  pub value-set : (j : ℕ) → Inside (Values n m) j → (v : Value) (y : ℕ) → 1 ≤ y → valueRecordOf n (setValue m n ws j v) y ≡ changed j (withValue v) y (valueRecordOf n ws y)
   unfolding setValue recordAt capacityOf recordFrom
   value-set j named v y low = go (ℕ-discrete y j)
     where
@@ -102,13 +99,7 @@ module _ (m n : ℕ) (ws : List ℕ) (room : RoomForAll m n ws) where
       stored = rw (inside-is named)
 
       others : (k : ℕ) → (k < valueAt n j + 4) ⊎ (valueAt n j + 8 ≤ k) → getD (valueSetAt ws (valueAt n j) v) k 0 ≡ getD ws k 0
-      others k o =
-          set-wide-others (setWide ws (valueAt n j + 4) (v .first)) (valueAt n j + 6) (v .second) k (λ e. out o (omega arith) (omega arith)) (λ e. out o (omega arith) (omega arith))
-          ∙ set-wide-others ws (valueAt n j + 4) (v .first) k (λ e. out o (omega arith) (omega arith)) (λ e. out o (omega arith) (omega arith))
-        where
-          out : (k < valueAt n j + 4) ⊎ (valueAt n j + 8 ≤ k) → valueAt n j + 4 ≤ k → k < valueAt n j + 8 → ⊥
-          out (inl a) h l = omega arith
-          out (inr a) h l = omega arith
+      others = value-others ws (valueAt n j) v
 
       away : (k : ℕ) → y ≢ j → valueAt n y ≤ k → k < valueAt n y + 8 → (k < valueAt n j + 4) ⊎ (valueAt n j + 8 ≤ k)
       away k d h l = part (decLe y j)
@@ -117,7 +108,7 @@ module _ (m n : ℕ) (ws : List ℕ) (room : RoomForAll m n ws) where
           part (yes a) = ⊎-elim (λ (e : y ≡ j). absurd (d e)) (λ (b : y < j). inl (omega arith)) (eq-or-lt-of-le a)
           part (no a) = let b : j < y = lt-of-not-le a in inr (omega arith)
 
-      go : Dec (y ≡ j) → valueRecordOf n (setValue m n ws j v) y ≡ altered j (withValue v) y (valueRecordOf n ws y)
+      go : Dec (y ≡ j) → valueRecordOf n (setValue m n ws j v) y ≡ changed j (withValue v) y (valueRecordOf n ws y)
       go (no d) = rw (stored, ne-eqb y j d) (record-same (valueSetAt ws (valueAt n j) v) ws (valueAt n y) (λ k a b. others k (away k d a b)))
       go (yes e) = rw (stored, eq-eqb y j e, e) same
         where
@@ -148,6 +139,13 @@ module _ (m n : ℕ) (ws : List ℕ) (room : RoomForAll m n ws) where
 
           same : recordFrom (valueSetAt ws (valueAt n j) v) (valueAt n j) ≡ withValue v (recordFrom ws (valueAt n j))
           same = λ ι. record { register0 = zero ι; register1 = one ι; register2 = two ι; register3 = three ι; value = record { first = lower ι; second = upper ι } }
+
+  -- registers are no part of a value
+  pub value-registers : (j : ℕ) → Inside (Values n m) j → (v : Value) (y : ℕ) → 1 ≤ y → (P : ValueRecord → Type 0) → ((r : ValueRecord) → P r → P (withValue v r))
+      → P (valueRecordOf n ws y) → P (valueRecordOf n (setValue m n ws j v) y)
+  value-registers j named v y low P f p =
+      let x : ValueRecord = valueRecordOf n ws y in
+      rw (value-set j named v y low) (either-way P (eqb y j) (withValue v x) x (f x p) p)
 
 -- ---- what is stored in the nodes and the header leaves every value record
 

@@ -1,0 +1,1 @@
+// No code: what each call rewrites. Everything is in specs/.
