@@ -28,8 +28,8 @@ use Rattle.listing.specs.Position.{madeOf}
 use Rattle.listing.specs.Step.{stepOf}
 use Rattle.texts.specs.declared.Command.{Command}
 use Rattle.texts.specs.declared.Command.the-variants as command
-use Rattle.texts.specs.Digits.{hexOf, decimalOf}
-use Rattle.texts.specs.Texts.{newline, badText, setText, pairText, entryText, endText, refusalText}
+use Rattle.texts.specs.Digits.{decimalOf}
+use Rattle.texts.specs.Texts.{newline, badText, setText, valueText, entryText, endText, refusalText}
 
 -- ---- the answer of each call
 
@@ -40,12 +40,12 @@ placeText (place.Refused r) = refusalText r
 
 -- `gone V`
 unfoldable pub goneText : Got → List ℕ
-goneText (got.Found v) = (103 ∷ 111 ∷ 110 ∷ 101 ∷ []) ++ (32 ∷ []) ++ pairText (v .first) (v .second) ++ newline
+goneText (got.Found v) = (103 ∷ 111 ∷ 110 ∷ 101 ∷ []) ++ (32 ∷ []) ++ valueText v
 goneText (got.Refused r) = refusalText r
 
 -- `val V`
 unfoldable pub valText : Got → List ℕ
-valText (got.Found v) = (118 ∷ 97 ∷ 108 ∷ 32 ∷ []) ++ pairText (v .first) (v .second) ++ newline
+valText (got.Found v) = (118 ∷ 97 ∷ 108 ∷ 32 ∷ []) ++ valueText v
 valText (got.Refused r) = refusalText r
 
 -- `set`

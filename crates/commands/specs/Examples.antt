@@ -10,8 +10,8 @@ use Rattle.records.specs.declared.Got.the-variants as got
 use Rattle.records.specs.declared.Done.the-variants as done
 use Rattle.texts.specs.declared.Command.the-variants as command
 use Rattle.texts.specs.Digits.{glyph, digits, widthOf, decimalOf, isDigit, digitOf, digitsAt, valueAt}
-use Rattle.texts.specs.Lines.{wordAt, fieldAt, oneField, twoFields, insertAsked, writeAsked, removeAsked, getAsked, aloneAsked, letterAsked, commandOf}
-use Rattle.texts.specs.Texts.{pairText, entryText, endText, refusalText}
+use Rattle.texts.specs.Lines.{wordAt, fieldAt, oneField, twoFields, keyAsked, bothAsked, aloneAsked, letterAsked, commandOf}
+use Rattle.texts.specs.Texts.{pairText, valueText, entryText, endText, refusalText}
 use Rattle.commands.specs.Answers.{placeText, goneText, valText, doneText}
 
 -- thirty-one digits `0`, and a byte behind them
@@ -34,7 +34,7 @@ pub worked-lines :
     × (commandOf (97 ∷ 32 ∷ []) ≡ command.Bad)
     × (commandOf (65 ∷ []) ≡ command.Bad)
     × (commandOf [] ≡ command.Bad)
-unfolding commandOf letterAsked insertAsked writeAsked removeAsked getAsked aloneAsked oneField twoFields fieldAt wordAt digitsAt valueAt isDigit digitOf
+unfolding commandOf letterAsked keyAsked bothAsked aloneAsked oneField twoFields fieldAt wordAt digitsAt valueAt isDigit digitOf
 worked-lines = (refl, refl, refl, refl, refl, refl, refl, refl, refl, refl, refl)
 
 pub worked-answers :
@@ -52,5 +52,5 @@ pub worked-answers :
     -- `0 F` as a line of a listing, and its end
     × (entryText (record { high = 0; low = 0 }) (record { first = 0; second = 15 }) ≡ zeros31 48 ++ (32 ∷ []) ++ zeros31 102 ++ (10 ∷ []))
     × (endText 2 ≡ 101 ∷ 110 ∷ 100 ∷ 32 ∷ 50 ∷ 10 ∷ [])
-unfolding placeText valText goneText doneText refusalText refusalNumber pairText entryText endText decimalOf widthOf digits glyph
+unfolding placeText valText goneText doneText refusalText refusalNumber pairText valueText entryText endText decimalOf widthOf digits glyph
 worked-answers = (refl, refl, refl, refl, refl, refl, refl, refl, refl)

@@ -14,7 +14,7 @@ use Rattle.records.specs.Layout.{imageOf}
 use Rattle.texts.specs.declared.Command.{Command}
 use Rattle.texts.specs.declared.Command.the-variants as command
 use Rattle.texts.specs.Put.{Written, then, nothing, reads}
-use Rattle.texts.specs.Lines.{commandOf, letterAsked, oneField, twoFields, insertAsked, writeAsked, removeAsked, getAsked, aloneAsked}
+use Rattle.texts.specs.Lines.{commandOf, letterAsked, oneField, twoFields, keyAsked, bothAsked, aloneAsked}
 use Rattle.texts.specs.Texts.{badText}
 use Rattle.commands.specs.Answers.{answerOf, imageAfter}
 use Rattle.commands.specs.Session.{byteText, byteImage, byteLine, fedText, fedImage, fedLine, lastText, fed-text-append, fed-image-append, fed-line-append}
@@ -23,7 +23,7 @@ use Rattle.commands.specs.Session.{byteText, byteImage, byteLine, fedTex
 
 -- more than 80 bytes are bad
 pub long-bad : (line : List ℕ) → 80 < length line → commandOf line ≡ command.Bad
-unfolding commandOf letterAsked insertAsked writeAsked removeAsked getAsked aloneAsked oneField twoFields
+unfolding commandOf letterAsked keyAsked bothAsked aloneAsked oneField twoFields
 long-bad line h =
     let a : eqb (length line) 0 ≡ false = ne-eqb (length line) 0 (λ e. omega arith) in
     let b : eqb (length line) 34 ≡ false = ne-eqb (length line) 34 (λ e. omega arith) in

@@ -25,8 +25,8 @@ use Rattle.remove.specs.Steps.{planImage as remove·planImage, valueGone, opene
 use Rattle.listing.specs.Position.{openedMade, madeOf}
 use Rattle.listing.specs.Step.{openTo, popTo, leafMoved, openedMoved, movedOf, openedStep, stepOf as listing·stepOf}
 use Rattle.texts.specs.Digits.{glyph, digits, widthOf as commands·widthOf, decimalOf, isDigit, digitOf, digitsAt, valueAt}
-use Rattle.texts.specs.Lines.{wordAt, fieldAt, oneField, twoFields, insertAsked, writeAsked, removeAsked, getAsked, aloneAsked, letterAsked, commandOf}
-use Rattle.texts.specs.Texts.{pairText, entryText, endText, refusalText}
+use Rattle.texts.specs.Lines.{wordAt, fieldAt, oneField, twoFields, keyAsked, bothAsked, aloneAsked, letterAsked, commandOf}
+use Rattle.texts.specs.Texts.{pairText, valueText, entryText, endText, refusalText}
 use Rattle.commands.specs.Answers.{placeText, goneText, closeText, stepText, listText, allText, answerOf, imageAfter}
 use Rattle.commands.specs.Session.{byteText, byteImage, byteLine, fedText, fedImage, fedLine, lastText, inputText}
 
@@ -49,5 +49,5 @@ answer =
     ++ ((101 ∷ 110 ∷ 100 ∷ 32 ∷ 50 ∷ 10 ∷ []))
 
 pub whole-case : inputText 256 512 (started 256 512) case ≡ answer
-unfolding wideAt setWide zerosAt commonOf common bitOf numberOf headerAt recordAt capacityOf widthOf countsOf getRegister setRegister connected disconnected neverUsed freshTaken freedTaken unlinked addIndex addImage removeImage refusalNumber openOf headerOf nodeOf recordFrom arenaOk countsOk headerOk formOk nodeOk kidsOk freeNode freeValue setContent setValue childOf lookupTurn reachTurn stepOf descend fromRoot leafTarget stopTarget openedTarget targetOf takenNode nextNode takenValue firstPlan stopPlan planOf leafTaken valueTaken leafAdded copyTaken hung duplicated replaced firstImage sharedOf forkedImage splitImage planImage planPlace openedPlan insertOf insertImage siblingOf unhung leafRemoved contentMoved valueMoved kidsMoved placeFreed migrated cutImage siblingOk leafPlan remove·stopPlan remove·planImage valueGone remove·openedPlan removeOf removedImage openedMade madeOf openTo popTo leafMoved openedMoved movedOf openedStep listing·stepOf glyph digits commands·widthOf decimalOf isDigit digitOf digitsAt valueAt wordAt fieldAt oneField twoFields insertAsked writeAsked removeAsked getAsked aloneAsked letterAsked commandOf pairText entryText endText refusalText placeText goneText closeText stepText listText allText answerOf imageAfter byteText byteImage byteLine fedText fedImage fedLine lastText inputText blank started
+unfolding wideAt setWide zerosAt commonOf common bitOf numberOf headerAt recordAt capacityOf widthOf countsOf getRegister setRegister connected disconnected neverUsed freshTaken freedTaken unlinked addIndex addImage removeImage refusalNumber openOf headerOf nodeOf recordFrom arenaOk countsOk headerOk formOk nodeOk kidsOk freeNode freeValue setContent setValue childOf lookupTurn reachTurn stepOf descend fromRoot leafTarget stopTarget openedTarget targetOf takenNode nextNode takenValue firstPlan stopPlan planOf leafTaken valueTaken leafAdded copyTaken hung duplicated replaced firstImage sharedOf forkedImage splitImage planImage planPlace openedPlan insertOf insertImage siblingOf unhung leafRemoved contentMoved valueMoved kidsMoved placeFreed migrated cutImage siblingOk leafPlan remove·stopPlan remove·planImage valueGone remove·openedPlan removeOf removedImage openedMade madeOf openTo popTo leafMoved openedMoved movedOf openedStep listing·stepOf glyph digits commands·widthOf decimalOf isDigit digitOf digitsAt valueAt wordAt fieldAt oneField twoFields keyAsked bothAsked aloneAsked letterAsked commandOf pairText valueText entryText endText refusalText placeText goneText closeText stepText listText allText answerOf imageAfter byteText byteImage byteLine fedText fedImage fedLine lastText inputText blank started
 whole-case = refl

@@ -1,9 +1,6 @@
 // What a call's answer is written as. Each answer of these functions is under 80 bytes.
-use records::Done;
 use records::Entry;
-use records::Got;
 use records::NodeIndex;
-use records::Place;
 use records::Refusal;
 use records::Value;
 use records::number;
@@ -13,16 +10,17 @@ use texts::print::put_decimal;
 use texts::print::put_end;
 use texts::print::put_entry;
 use texts::print::put_four;
-use texts::print::put_pair;
 use texts::print::put_refusal;
+use texts::print::put_value;
 ghost use Prim.Native.Nat.{_+_, _≤_};
 ghost use lib.ListN.{length};
 ghost use Rattle.records.specs.declared.Got.the-variants.{Found};
 ghost use Rattle.records.specs.declared.Place.the-variants.{At};
 ghost use Rattle.texts.specs.Put.{Written};
-ghost use Rattle.commands.specs.Answers.{placeText, goneText, valText, doneText, oneText, closeText};
+ghost use Rattle.commands.specs.Answers.{placeText, goneText, valText, oneText, closeText};
 
-fn put_index(out: &mut [u8], at: usize, i: NodeIndex) -> usize
+// `ok INDEX`
+pub fn put_index(out: &mut [u8], at: usize, i: NodeIndex) -> usize
     requires { ⌜ at + 80 ≤ length (now out) ⌝ }
     ensures room { λ r. ⌜ r ≤ at + 80 ⌝ }
     ensures text { λ r. ⌜ Written (now (out .entry)) (now (out .exit)) at r (placeText (At i)) ⌝ }
@@ -34,73 +32,25 @@ fn put_index(out: &mut [u8], at: usize, i: NodeIndex) -> usize
     put_byte(out, d, b'\n')
 }
 
-fn put_gone(out: &mut [u8], at: usize, v: Value) -> usize
+// `gone V`
+pub fn put_gone(out: &mut [u8], at: usize, v: Value) -> usize
     requires { ⌜ at + 80 ≤ length (now out) ⌝ }
     ensures room { λ r. ⌜ r ≤ at + 80 ⌝ }
     ensures text { λ r. ⌜ Written (now (out .entry)) (now (out .exit)) at r (goneText (Found v)) ⌝ }
 {
     let a = put_four(out, at, b'g', b'o', b'n', b'e');
     let b = put_byte(out, a, b' ');
-    let c = put_pair(out, b, v.first, v.second);
-    put_byte(out, c, b'\n')
+    put_value(out, b, v)
 }
 
-fn put_val(out: &mut [u8], at: usize, v: Value) -> usize
+// `val V`
+pub fn put_val(out: &mut [u8], at: usize, v: Value) -> usize
     requires { ⌜ at + 80 ≤ length (now out) ⌝ }
     ensures room { λ r. ⌜ r ≤ at + 80 ⌝ }
     ensures text { λ r. ⌜ Written (now (out .entry)) (now (out .exit)) at r (valText (Found v)) ⌝ }
 {
     let a = put_four(out, at, b'v', b'a', b'l', b' ');
-    let b = put_pair(out, a, v.first, v.second);
-    put_byte(out, b, b'\n')
-}
-
-// `ok INDEX` or `full`
-pub fn answer_place(out: &mut [u8], at: usize, a: Place) -> usize
-    requires { ⌜ at + 80 ≤ length (now out) ⌝ }
-    ensures room { λ r. ⌜ r ≤ at + 80 ⌝ }
-    ensures text { λ r. ⌜ Written (now (out .entry)) (now (out .exit)) at r (placeText a) ⌝ }
-{
-    match a {
-        Place::At(i) => put_index(out, at, i),
-        Place::Refused(r) => put_refusal(out, at, r),
-    }
-}
-
-// `gone V` or `none`
-pub fn answer_gone(out: &mut [u8], at: usize, a: Got) -> usize
-    requires { ⌜ at + 80 ≤ length (now out) ⌝ }
-    ensures room { λ r. ⌜ r ≤ at + 80 ⌝ }
-    ensures text { λ r. ⌜ Written (now (out .entry)) (now (out .exit)) at r (goneText a) ⌝ }
-{
-    match a {
-        Got::Found(v) => put_gone(out, at, v),
-        Got::Refused(r) => put_refusal(out, at, r),
-    }
-}
-
-// `val V` or `none`
-pub fn answer_val(out: &mut [u8], at: usize, a: Got) -> usize
-    requires { ⌜ at + 80 ≤ length (now out) ⌝ }
-    ensures room { λ r. ⌜ r ≤ at + 80 ⌝ }
-    ensures text { λ r. ⌜ Written (now (out .entry)) (now (out .exit)) at r (valText a) ⌝ }
-{
-    match a {
-        Got::Found(v) => put_val(out, at, v),
-        Got::Refused(r) => put_refusal(out, at, r),
-    }
-}
-
-// `set` or `none`
-pub fn answer_done(out: &mut [u8], at: usize, a: Done) -> usize
-    requires { ⌜ at + 80 ≤ length (now out) ⌝ }
-    ensures room { λ r. ⌜ r ≤ at + 80 ⌝ }
-    ensures text { λ r. ⌜ Written (now (out .entry)) (now (out .exit)) at r (doneText a) ⌝ }
-{
-    match a {
-        Done::Yes => put_four(out, at, b's', b'e', b't', b'\n'),
-        Done::Refused(r) => put_refusal(out, at, r),
-    }
+    put_value(out, a, v)
 }
 
 // `K V` or `none`

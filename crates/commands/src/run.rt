@@ -1,27 +1,34 @@
 // A command on the map: the call, and its answer. M is 256 and N 512.
 use crate::all::put_all;
-use crate::answer::answer_done;
 use crate::answer::answer_entry;
-use crate::answer::answer_gone;
-use crate::answer::answer_place;
-use crate::answer::answer_val;
+use crate::answer::put_gone;
+use crate::answer::put_index;
+use crate::answer::put_val;
 use keys::Key;
+use lookup::ends::get_max;
+use lookup::ends::get_min;
+use lookup::get::get;
+use lookup::get::set;
+use records::Done;
+use records::Got;
+use records::Place;
 use records::Value;
 use texts::Command;
 use texts::parse::parse;
 use texts::print::put_bad;
+use texts::print::put_four;
+use texts::print::put_refusal;
 ghost use Prim.Native.Nat.{_+_, _≤_};
 ghost use lib.ListN.{length};
 ghost use Rattle.records.specs.Layout.{imageOf};
 ghost use Rattle.records.specs.Numbers.{placeNumber, gotNumber, doneNumber};
 ghost use Rattle.records.specs.Outcome.{Leaves};
 ghost use Rattle.lookup.specs.Get.{getOf, writeOf, writeImage};
-ghost use Rattle.lookup.specs.Ends.{smallestOf, largestOf};
 ghost use Rattle.insert.specs.Steps.{insertOf, insertImage};
 ghost use Rattle.remove.specs.Steps.{removeOf, removedImage};
 ghost use Rattle.texts.specs.Put.{Written};
 ghost use Rattle.texts.specs.Lines.{commandOf};
-ghost use Rattle.commands.specs.Answers.{placeText, goneText, valText, doneText, oneText, answerOf, imageAfter, keptBy};
+ghost use Rattle.commands.specs.Answers.{placeText, goneText, valText, doneText, answerOf, imageAfter, keptBy};
 
 fn insert_line(img: &mut [u8], out: &mut [u8], at: usize, key: Key, v: Value) -> usize
     requires { ⌜ at + 80 ≤ length (now out) ⌝ }
@@ -29,8 +36,10 @@ fn insert_line(img: &mut [u8], out: &mut [u8], at: usize, key: Key, v: Value) ->
     ensures text { λ r. ⌜ Written (now (out .entry)) (now (out .exit)) at r (placeText (insertOf 256 512 (imageOf (now (img .entry))) key)) ⌝ }
     ensures image { λ _. ⌜ Leaves (now (img .entry)) (now (img .exit)) (placeNumber (insertOf 256 512 (imageOf (now (img .entry))) key)) (insertImage 256 512 (imageOf (now (img .entry))) key v) ⌝ }
 {
-    let a = insert::insert(img, 256, 512, key, v);
-    answer_place(out, at, a)
+    match insert::insert(img, 256, 512, key, v) {
+        Place::At(i) => put_index(out, at, i),
+        Place::Refused(r) => put_refusal(out, at, r),
+    }
 }
 
 fn remove_line(img: &mut [u8], out: &mut [u8], at: usize, key: Key) -> usize
@@ -39,8 +48,10 @@ fn remove_line(img: &mut [u8], out: &mut [u8], at: usize, key: Key) -> usize
     ensures text { λ r. ⌜ Written (now (out .entry)) (now (out .exit)) at r (goneText (removeOf 256 512 (imageOf (now (img .entry))) key)) ⌝ }
     ensures image { λ _. ⌜ Leaves (now (img .entry)) (now (img .exit)) (gotNumber (removeOf 256 512 (imageOf (now (img .entry))) key)) (removedImage 256 512 (imageOf (now (img .entry))) key) ⌝ }
 {
-    let a = remove::remove(img, 256, 512, key);
-    answer_gone(out, at, a)
+    match remove::remove(img, 256, 512, key) {
+        Got::Found(v) => put_gone(out, at, v),
+        Got::Refused(r) => put_refusal(out, at, r),
+    }
 }
 
 fn write_line(img: &mut [u8], out: &mut [u8], at: usize, key: Key, v: Value) -> usize
@@ -49,8 +60,10 @@ fn write_line(img: &mut [u8], out: &mut [u8], at: usize, key: Key, v: Value) -> 
     ensures text { λ r. ⌜ Written (now (out .entry)) (now (out .exit)) at r (doneText (writeOf 256 512 (imageOf (now (img .entry))) key)) ⌝ }
     ensures image { λ _. ⌜ Leaves (now (img .entry)) (now (img .exit)) (doneNumber (writeOf 256 512 (imageOf (now (img .entry))) key)) (writeImage 256 512 (imageOf (now (img .entry))) key v) ⌝ }
 {
-    let a = lookup::get::set(img, 256, 512, key, v);
-    answer_done(out, at, a)
+    match set(img, 256, 512, key, v) {
+        Done::Yes => put_four(out, at, b's', b'e', b't', b'\n'),
+        Done::Refused(r) => put_refusal(out, at, r),
+    }
 }
 
 fn get_line(img: &[u8], out: &mut [u8], at: usize, key: Key) -> usize
@@ -58,26 +71,10 @@ fn get_line(img: &[u8], out: &mut [u8], at: usize, key: Key) -> usize
     ensures room { λ r. ⌜ r ≤ at + 80 ⌝ }
     ensures text { λ r. ⌜ Written (now (out .entry)) (now (out .exit)) at r (valText (getOf 256 512 (imageOf (now (img .entry))) key)) ⌝ }
 {
-    let a = lookup::get::get(img, 256, 512, key);
-    answer_val(out, at, a)
-}
-
-fn smallest_line(img: &[u8], out: &mut [u8], at: usize) -> usize
-    requires { ⌜ at + 80 ≤ length (now out) ⌝ }
-    ensures room { λ r. ⌜ r ≤ at + 80 ⌝ }
-    ensures text { λ r. ⌜ Written (now (out .entry)) (now (out .exit)) at r (oneText (smallestOf 256 512 (imageOf (now (img .entry))))) ⌝ }
-{
-    let a = lookup::ends::get_min(img, 256, 512);
-    answer_entry(out, at, a)
-}
-
-fn largest_line(img: &[u8], out: &mut [u8], at: usize) -> usize
-    requires { ⌜ at + 80 ≤ length (now out) ⌝ }
-    ensures room { λ r. ⌜ r ≤ at + 80 ⌝ }
-    ensures text { λ r. ⌜ Written (now (out .entry)) (now (out .exit)) at r (oneText (largestOf 256 512 (imageOf (now (img .entry))))) ⌝ }
-{
-    let a = lookup::ends::get_max(img, 256, 512);
-    answer_entry(out, at, a)
+    match get(img, 256, 512, key) {
+        Got::Found(v) => put_val(out, at, v),
+        Got::Refused(r) => put_refusal(out, at, r),
+    }
 }
 
 // Carries a command out and puts its answer into the output, which has room for the longest: a whole listing.
@@ -92,8 +89,8 @@ fn run(c: Command, img: &mut [u8], out: &mut [u8], at: usize) -> usize
         Command::Remove(key) => remove_line(img, out, at, key),
         Command::Get(key) => get_line(img, out, at, key),
         Command::Write(key, v) => write_line(img, out, at, key, v),
-        Command::Smallest => smallest_line(img, out, at),
-        Command::Largest => largest_line(img, out, at),
+        Command::Smallest => answer_entry(out, at, get_min(img, 256, 512)),
+        Command::Largest => answer_entry(out, at, get_max(img, 256, 512)),
         Command::All => put_all(img, out, at),
         Command::Bad => put_bad(out, at),
     }

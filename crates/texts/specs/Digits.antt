@@ -1,12 +1,13 @@
 -- Numbers as text and back: document 01, "keys and values are 32 lowercase hex digits", "INDEX and COUNT" in decimal without leading zeros.
 use mathlib.Core.Path.{_≡_, refl, sym, ap, _∙_}
-use mathlib.Core.List.{List, [], _∷_, _++_}
+use mathlib.Core.List.{List, [], _∷_, _++_, append-assoc, append-nil}
 use mathlib.Core.Bool.{Bool, true, false, cond, _&&_, _||_}
 use Prim.Native.Nat.{ℕ, zero, suc, _+_, _*_, _-_, _/_, _%_, _^_, _<_, _≤_}
-use native.Mathlib.Nat.{pow-suc, pow-le-pow-right}
+use native.Mathlib.Nat.{add-suc, mul-comm, pow-suc, one-le-pow, pow-le-pow-right, div-div-eq-div-mul}
 use native.Mathlib.Numerals.{add-one}
 use native.Mathlib.Omega.{arith}
 use lib.ListN.{length, getD, set, length-append}
+use lib.Arith.{mod-mul}
 use lib.Dec.{ltb, leb}
 use borrow.Author.Tests.{leb-true}
 use Rattle.words.specs.Tests.{and-r}
@@ -45,6 +46,22 @@ pub digits-end : (base k n : ℕ) (bytes : List ℕ) (at : ℕ) → k ≤ 0 → 
 unfolding digits
 digits-end base zero n bytes at h = put-none bytes at
 digits-end base (suc k) n bytes at h = absurd (omega arith)
+
+-- the last hex digits, cut in two: those of the number's high part, then those of its low part
+pub digits-parts : (j k n : ℕ) → digits 16 j (n / 16 ^ k) ++ digits 16 k (n % 16 ^ k) ≡ digits 16 (j + k) n
+unfolding digits
+digits-parts j zero n =
+    let all : n / 16 ^ zero ≡ n = omega arith in
+    let none : j + zero ≡ j = omega arith in
+    rw (all, none) (append-nil (digits 16 j n))
+digits-parts j (suc k) n =
+    let whole : n % 16 ^ suc k ≡ (n / 16 % 16 ^ k) * 16 + n % 16 = ap (λ (p : ℕ). n % p) (pow-suc 16 k) ∙ mod-mul n (one-le-pow k 16 (omega arith)) (omega arith) in
+    let high : n / 16 ^ suc k ≡ n / 16 / 16 ^ k = ap (λ (p : ℕ). n / p) (pow-suc 16 k ∙ mul-comm (16 ^ k) 16) ∙ sym (div-div-eq-div-mul n 16 (16 ^ k)) in
+    let mid : n % 16 ^ suc k / 16 ≡ n / 16 % 16 ^ k = omega (arith, whole) in
+    let low : n % 16 ^ suc k % 16 ≡ n % 16 = omega (arith, whole) in
+    rw (high, mid, low, add-suc j k)
+    (sym (append-assoc (digits 16 j (n / 16 / 16 ^ k)) (digits 16 k (n / 16 % 16 ^ k)) (glyph (n % 16) ∷ []))
+    ∙ ap (λ (l : List ℕ). l ++ (glyph (n % 16) ∷ [])) (digits-parts j k (n / 16)))
 
 -- a 64-bit number: sixteen hex digits
 abbrev pub hexOf : ℕ → List ℕ

@@ -20,7 +20,7 @@ use Rattle.texts.specs.declared.TwoFields.{TwoFields}
 use Rattle.texts.specs.declared.TwoFields.the-variants as two
 use Rattle.texts.specs.declared.Command.{Command}
 use Rattle.texts.specs.declared.Command.the-variants as command
-use Rattle.texts.specs.Lines.{wordAt, fieldAt, oneField, twoFields, insertAsked, writeAsked, removeAsked, getAsked, aloneAsked, letterAsked, commandOf}
+use Rattle.texts.specs.Lines.{wordAt, fieldAt, keyFrom, valueFrom, oneField, twoFields, keyAsked, bothAsked, aloneAsked, letterAsked, commandOf}
 use Rattle.texts.specs.Texts.{pairText}
 use Rattle.texts.specs.Digits.{glyph, digits, isDigit, digitOf, digit-small, digitsAt, valueAt}
 
@@ -31,7 +31,7 @@ pub digit-exact : (b : ℕ) → isDigit b ≡ true → glyph (digitOf b) ≡ b
 unfolding isDigit digitOf glyph
 digit-exact b e = ⊎-elim low high (or-cases (leb 48 b && leb b 57) (leb 97 b && leb b 102) e)
   where
-    low : (leb 48 b && leb b 57) ≡ true → cond (ltb (cond (leb 97 b && leb b 102) (b - 87) (cond (leb 48 b && leb b 57) (b - 48) 0)) 10) (48 + (cond (leb 97 b && leb b 102) (b - 87) (cond (leb 48 b && leb b 57) (b - 48) 0))) (87 + (cond (leb 97 b && leb b 102) (b - 87) (cond (leb 48 b && leb b 57) (b - 48) 0))) ≡ b
+    low : (leb 48 b && leb b 57) ≡ true → glyph (digitOf b) ≡ b
     low t =
         let p : 48 ≤ b = leb-true 48 b (and-l (leb 48 b) (leb b 57) t) in
         let q : b ≤ 57 = leb-true b 57 (and-r (leb 48 b) (leb b 57) t) in
@@ -40,7 +40,7 @@ digit-exact b e = ⊎-elim low high (or-cases (leb 48 b && leb b 57) (leb 97 b &
         let n : b < 97 = omega arith in
         simp (lt-leb 97 b n, t, lt-ltb (b - 48) 10 r) s
 
-    high : (leb 97 b && leb b 102) ≡ true → cond (ltb (cond (leb 97 b && leb b 102) (b - 87) (cond (leb 48 b && leb b 57) (b - 48) 0)) 10) (48 + (cond (leb 97 b && leb b 102) (b - 87) (cond (leb 48 b && leb b 57) (b - 48) 0))) (87 + (cond (leb 97 b && leb b 102) (b - 87) (cond (leb 48 b && leb b 57) (b - 48) 0))) ≡ b
+    high : (leb 97 b && leb b 102) ≡ true → glyph (digitOf b) ≡ b
     high t =
         let p : 97 ≤ b = leb-true 97 b (and-l (leb 97 b) (leb b 102) t) in
         let r : 10 ≤ b - 87 = omega arith in
@@ -92,33 +92,34 @@ byte line at b h e = drop-cons line at 0 h ∙ ap (λ (x : ℕ). x ∷ drop (suc
 none-left : (line : List ℕ) (at : ℕ) → length line ≡ at → drop at line ≡ []
 none-left line at e = ap (λ (k : ℕ). drop k line) (sym e) ∙ drop-length line
 
+-- a space and the field behind it
+spaced : (line : List ℕ) (at : ℕ) → getD line at 0 ≡ 32 → fieldAt line (suc at) .ok ≡ true → at + 33 ≤ length line
+    → drop at line ≡ (32 ∷ pairText (fieldAt line (suc at) .first) (fieldAt line (suc at) .second)) ++ drop (at + 33) line
+spaced line at s ok h =
+    let far : suc at + 32 ≡ at + 33 = omega arith in
+    byte line at 32 (omega arith) s ∙ ap (λ (t : List ℕ). 32 ∷ t) (rw far at (field-exact line (suc at) ok (omega arith)))
+
+-- the last one
+spaced-last : (line : List ℕ) (at : ℕ) → getD line at 0 ≡ 32 → fieldAt line (suc at) .ok ≡ true → length line ≡ at + 33
+    → drop at line ≡ 32 ∷ pairText (fieldAt line (suc at) .first) (fieldAt line (suc at) .second)
+spaced-last line at s ok n =
+    let f : List ℕ = 32 ∷ pairText (fieldAt line (suc at) .first) (fieldAt line (suc at) .second) in
+    spaced line at s ok (omega arith) ∙ ap (λ (t : List ℕ). f ++ t) (none-left line (at + 33) n) ∙ append-nil f
+
 one-text : (line : List ℕ) (letter : ℕ) → length line ≡ 34 → getD line 0 0 ≡ letter → getD line 1 0 ≡ 32 → fieldAt line 2 .ok ≡ true
-    → line ≡ keyText letter (record { high = fieldAt line 2 .first; low = fieldAt line 2 .second })
+    → line ≡ keyText letter (keyFrom (fieldAt line 2))
 unfolding keyText
-one-text line letter n e s ok =
-    let p = pairText (fieldAt line 2 .first) (fieldAt line 2 .second) in
-    byte line 0 letter (omega arith) e
-    ∙ ap (λ (t : List ℕ). letter ∷ t)
-    (byte line 1 32 (omega arith) s
-    ∙ ap (λ (t : List ℕ). 32 ∷ t)
-    (field-exact line 2 ok (omega arith) ∙ ap (λ (t : List ℕ). p ++ t) (none-left line 34 n) ∙ append-nil p))
+one-text line letter n e s ok = byte line 0 letter (omega arith) e ∙ ap (λ (t : List ℕ). letter ∷ t) (spaced-last line 1 s ok n)
 
 two-text : (line : List ℕ) (letter : ℕ) → length line ≡ 67 → getD line 0 0 ≡ letter → getD line 1 0 ≡ 32 → getD line 34 0 ≡ 32
     → fieldAt line 2 .ok ≡ true → fieldAt line 35 .ok ≡ true
-    → line ≡ bothText letter (record { high = fieldAt line 2 .first; low = fieldAt line 2 .second }) (record { first = fieldAt line 35 .first; second = fieldAt line 35 .second })
+    → line ≡ bothText letter (keyFrom (fieldAt line 2)) (valueFrom (fieldAt line 35))
 unfolding bothText
 two-text line letter n e s s′ ok ok′ =
-    let p = pairText (fieldAt line 2 .first) (fieldAt line 2 .second) in
-    let q = pairText (fieldAt line 35 .first) (fieldAt line 35 .second) in
     byte line 0 letter (omega arith) e
     ∙ ap (λ (t : List ℕ). letter ∷ t)
-    (byte line 1 32 (omega arith) s
-    ∙ ap (λ (t : List ℕ). 32 ∷ t)
-    (field-exact line 2 ok (omega arith)
-    ∙ ap (λ (t : List ℕ). p ++ t)
-    (byte line 34 32 (omega arith) s′
-    ∙ ap (λ (t : List ℕ). 32 ∷ t)
-    (field-exact line 35 ok′ (omega arith) ∙ ap (λ (t : List ℕ). q ++ t) (none-left line 67 n) ∙ append-nil q))))
+    (spaced line 1 s ok (omega arith)
+    ∙ ap (λ (t : List ℕ). (32 ∷ pairText (fieldAt line 2 .first) (fieldAt line 2 .second)) ++ t) (spaced-last line 34 s′ ok′ n))
 
 -- ---- lines
 
@@ -144,82 +145,61 @@ Spells line command.Largest = line ≡ lineText command.Largest
 Spells line command.All = line ≡ lineText command.All
 Spells line command.Bad = Unit
 
-pick : (line : List ℕ) (b : Bool) (x y : Command) → (b ≡ true → Spells line x) → Spells line y → Spells line (cond b x y)
-pick line true x y f g = f refl
-pick line false x y f g = g
+-- a property of what a test chooses
+pick : {A : Type 0} (P : A → Type 0) (b : Bool) (x y : A) → (b ≡ true → P x) → P y → P (cond b x y)
+pick P true x y f g = f refl
+pick P false x y f g = g
 
 -- the fields, and a property of what is made of them
 one-cases : (P : OneField → Type 0) (line : List ℕ)
-    → (length line ≡ 34 → getD line 1 0 ≡ 32 → fieldAt line 2 .ok ≡ true → P (one.Is (record { high = fieldAt line 2 .first; low = fieldAt line 2 .second })))
+    → (length line ≡ 34 → getD line 1 0 ≡ 32 → fieldAt line 2 .ok ≡ true → P (one.Is (keyFrom (fieldAt line 2))))
     → P one.Not → P (oneField line)
 unfolding oneField
 one-cases P line f g =
-    outer (eqb (length line) 34) (λ e. inner (eqb (getD line 1 0) 32 && fieldAt line 2 .ok) (λ t. f (eqb-true (length line) 34 e) (eqb-true (getD line 1 0) 32 (and-l _ (fieldAt line 2 .ok) t)) (and-r (eqb (getD line 1 0) 32) _ t)))
-  where
-    inner : {x : OneField} (b : Bool) → (b ≡ true → P x) → P (cond b x one.Not)
-    inner true h = h refl
-    inner false h = g
-
-    outer : {x : OneField} (b : Bool) → (b ≡ true → P x) → P (cond b x one.Not)
-    outer true h = h refl
-    outer false h = g
+    pick P (eqb (length line) 34) _ _
+    (λ e. pick P (eqb (getD line 1 0) 32 && fieldAt line 2 .ok) _ _ (λ t. f (eqb-true _ 34 e) (eqb-true _ 32 (search (and-l, and-r))) (search (and-l, and-r))) g) g
 
 two-cases : (P : TwoFields → Type 0) (line : List ℕ)
     → (length line ≡ 67 → getD line 1 0 ≡ 32 → getD line 34 0 ≡ 32 → fieldAt line 2 .ok ≡ true → fieldAt line 35 .ok ≡ true
-    → P (two.Are (record { high = fieldAt line 2 .first; low = fieldAt line 2 .second }) (record { first = fieldAt line 35 .first; second = fieldAt line 35 .second })))
+    → P (two.Are (keyFrom (fieldAt line 2)) (valueFrom (fieldAt line 35))))
     → P two.Not → P (twoFields line)
 unfolding twoFields
 two-cases P line f g =
-    outer (eqb (length line) 67)
+    pick P (eqb (length line) 67) _ _
     (λ e.
-    outer (((eqb (getD line 1 0) 32 && eqb (getD line 34 0) 32) && fieldAt line 2 .ok) && fieldAt line 35 .ok)
+    pick P (eqb (getD line 1 0) 32 && eqb (getD line 34 0) 32 && fieldAt line 2 .ok && fieldAt line 35 .ok) _ _
     (λ t.
-    let u = and-l ((eqb (getD line 1 0) 32 && eqb (getD line 34 0) 32) && fieldAt line 2 .ok) (fieldAt line 35 .ok) t in
-    let w = and-l (eqb (getD line 1 0) 32 && eqb (getD line 34 0) 32) (fieldAt line 2 .ok) u in
-    f (eqb-true (length line) 67 e) (eqb-true (getD line 1 0) 32 (and-l (eqb (getD line 1 0) 32) (eqb (getD line 34 0) 32) w))
-    (eqb-true (getD line 34 0) 32 (and-r (eqb (getD line 1 0) 32) (eqb (getD line 34 0) 32) w))
-    (and-r (eqb (getD line 1 0) 32 && eqb (getD line 34 0) 32) (fieldAt line 2 .ok) u)
-    (and-r ((eqb (getD line 1 0) 32 && eqb (getD line 34 0) 32) && fieldAt line 2 .ok) (fieldAt line 35 .ok) t)))
-  where
-    outer : {x : TwoFields} (b : Bool) → (b ≡ true → P x) → P (cond b x two.Not)
-    outer true h = h refl
-    outer false h = g
+    f (eqb-true _ 67 e) (eqb-true _ 32 (search (and-l, and-r))) (eqb-true _ 32 (search (and-l, and-r))) (search (and-l, and-r)) (search (and-l, and-r))) g) g
 
 module _ (line : List ℕ) where
   alone-case : (letter : ℕ) (c : Command) → getD line 0 0 ≡ letter → (line ≡ letter ∷ [] → Spells line c) → Spells line (aloneAsked line c)
   unfolding aloneAsked Spells
   alone-case letter c e f =
-      pick line (eqb (length line) 1) c command.Bad
+      pick (Spells line) (eqb (length line) 1) c command.Bad
       (λ n.
       let n′ : length line ≡ 1 = eqb-true (length line) 1 n in
       f (byte line 0 letter (omega arith) e ∙ ap (λ (t : List ℕ). letter ∷ t) (none-left line 1 n′)))
       tt
 
-  insert-case : getD line 0 0 ≡ 105 → Spells line (insertAsked (twoFields line))
-  unfolding insertAsked Spells lineText
-  insert-case e = two-cases (λ f. Spells line (insertAsked f)) line (λ n s s′ ok ok′. two-text line 105 n e s s′ ok ok′) tt
+  key-case : (letter : ℕ) (ask : Key → Command) → getD line 0 0 ≡ letter → ((key : Key) → line ≡ keyText letter key → Spells line (ask key))
+      → Spells line (keyAsked ask (oneField line))
+  unfolding keyAsked Spells
+  key-case letter ask e f = one-cases (λ x. Spells line (keyAsked ask x)) line (λ n s ok. f _ (one-text line letter n e s ok)) tt
 
-  write-case : getD line 0 0 ≡ 119 → Spells line (writeAsked (twoFields line))
-  unfolding writeAsked Spells lineText
-  write-case e = two-cases (λ f. Spells line (writeAsked f)) line (λ n s s′ ok ok′. two-text line 119 n e s s′ ok ok′) tt
-
-  remove-case : getD line 0 0 ≡ 114 → Spells line (removeAsked (oneField line))
-  unfolding removeAsked Spells lineText
-  remove-case e = one-cases (λ f. Spells line (removeAsked f)) line (λ n s ok. one-text line 114 n e s ok) tt
-
-  get-case : getD line 0 0 ≡ 103 → Spells line (getAsked (oneField line))
-  unfolding getAsked Spells lineText
-  get-case e = one-cases (λ f. Spells line (getAsked f)) line (λ n s ok. one-text line 103 n e s ok) tt
+  both-case : (letter : ℕ) (ask : Key → Value → Command) → getD line 0 0 ≡ letter → ((key : Key) (v : Value) → line ≡ bothText letter key v → Spells line (ask key v))
+      → Spells line (bothAsked ask (twoFields line))
+  unfolding bothAsked Spells
+  both-case letter ask e f = two-cases (λ x. Spells line (bothAsked ask x)) line (λ n s s′ ok ok′. f _ _ (two-text line letter n e s s′ ok ok′)) tt
 
   -- every line is the text of what it asks, or bad
   pub spelled : Spells line (commandOf line)
   unfolding commandOf letterAsked Spells lineText
   spelled =
-      pick line (eqb (length line) 0) _ _ (λ e. tt)
-      (pick line (eqb (getD line 0 0) 105) _ _ (λ e. insert-case (eqb-true _ 105 e))
-      (pick line (eqb (getD line 0 0) 114) _ _ (λ e. remove-case (eqb-true _ 114 e))
-      (pick line (eqb (getD line 0 0) 103) _ _ (λ e. get-case (eqb-true _ 103 e))
-      (pick line (eqb (getD line 0 0) 119) _ _ (λ e. write-case (eqb-true _ 119 e))
-      (pick line (eqb (getD line 0 0) 110) _ _ (λ e. alone-case 110 command.Smallest (eqb-true _ 110 e) (λ t. t))
-      (pick line (eqb (getD line 0 0) 120) _ _ (λ e. alone-case 120 command.Largest (eqb-true _ 120 e) (λ t. t))
-      (pick line (eqb (getD line 0 0) 97) _ _ (λ e. alone-case 97 command.All (eqb-true _ 97 e) (λ t. t)) tt)))))))
+      pick (Spells line) (eqb (length line) 0) _ _ (λ e. tt)
+      (pick (Spells line) (eqb (getD line 0 0) 105) _ _ (λ e. both-case 105 command.Insert (eqb-true _ 105 e) (λ key v t. t))
+      (pick (Spells line) (eqb (getD line 0 0) 114) _ _ (λ e. key-case 114 command.Remove (eqb-true _ 114 e) (λ key t. t))
+      (pick (Spells line) (eqb (getD line 0 0) 103) _ _ (λ e. key-case 103 command.Get (eqb-true _ 103 e) (λ key t. t))
+      (pick (Spells line) (eqb (getD line 0 0) 119) _ _ (λ e. both-case 119 command.Write (eqb-true _ 119 e) (λ key v t. t))
+      (pick (Spells line) (eqb (getD line 0 0) 110) _ _ (λ e. alone-case 110 command.Smallest (eqb-true _ 110 e) (λ t. t))
+      (pick (Spells line) (eqb (getD line 0 0) 120) _ _ (λ e. alone-case 120 command.Largest (eqb-true _ 120 e) (λ t. t))
+      (pick (Spells line) (eqb (getD line 0 0) 97) _ _ (λ e. alone-case 97 command.All (eqb-true _ 97 e) (λ t. t)) tt)))))))

@@ -54,21 +54,14 @@ twoFields line =
 
 -- ---- commands
 
-unfoldable pub insertAsked : TwoFields → Command
-insertAsked (two.Are key v) = command.Insert key v
-insertAsked two.Not = command.Bad
+-- a command with a key, and one with a key and a value; where they do not stand on the line, it is bad
+unfoldable pub keyAsked : (Key → Command) → OneField → Command
+keyAsked ask (one.Is key) = ask key
+keyAsked ask one.Not = command.Bad
 
-unfoldable pub writeAsked : TwoFields → Command
-writeAsked (two.Are key v) = command.Write key v
-writeAsked two.Not = command.Bad
-
-unfoldable pub removeAsked : OneField → Command
-removeAsked (one.Is key) = command.Remove key
-removeAsked one.Not = command.Bad
-
-unfoldable pub getAsked : OneField → Command
-getAsked (one.Is key) = command.Get key
-getAsked one.Not = command.Bad
+unfoldable pub bothAsked : (Key → Value → Command) → TwoFields → Command
+bothAsked ask (two.Are key v) = ask key v
+bothAsked ask two.Not = command.Bad
 
 -- a letter alone: one byte
 unfoldable pub aloneAsked : List ℕ → Command → Command
@@ -77,10 +70,10 @@ aloneAsked line c = cond (eqb (length line) 1) c command.Bad
 -- the letters i, r, g, w, n, x, a
 unfoldable pub letterAsked : ℕ → List ℕ → Command
 letterAsked letter line =
-    cond (eqb letter 105) (insertAsked (twoFields line))
-    (cond (eqb letter 114) (removeAsked (oneField line))
-    (cond (eqb letter 103) (getAsked (oneField line))
-    (cond (eqb letter 119) (writeAsked (twoFields line))
+    cond (eqb letter 105) (bothAsked command.Insert (twoFields line))
+    (cond (eqb letter 114) (keyAsked command.Remove (oneField line))
+    (cond (eqb letter 103) (keyAsked command.Get (oneField line))
+    (cond (eqb letter 119) (bothAsked command.Write (twoFields line))
     (cond (eqb letter 110) (aloneAsked line command.Smallest)
     (cond (eqb letter 120) (aloneAsked line command.Largest) (cond (eqb letter 97) (aloneAsked line command.All) command.Bad))))))
 

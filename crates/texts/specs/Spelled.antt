@@ -17,7 +17,7 @@ use Rattle.texts.specs.declared.TwoFields.the-variants as two
 use Rattle.texts.specs.declared.Command.{Command}
 use Rattle.texts.specs.declared.Command.the-variants as command
 use Rattle.texts.specs.Digits.{glyph, digits, digits-length, hexOf, isDigit, digitOf, digitsAt, valueAt}
-use Rattle.texts.specs.Lines.{wordAt, fieldAt, oneField, twoFields, insertAsked, writeAsked, removeAsked, getAsked, aloneAsked, letterAsked, commandOf}
+use Rattle.texts.specs.Lines.{wordAt, fieldAt, oneField, twoFields, keyAsked, bothAsked, aloneAsked, letterAsked, commandOf}
 use Rattle.texts.specs.Texts.{pairText}
 use Rattle.texts.specs.Exact.{keyText, bothText, lineText}
 
@@ -131,7 +131,7 @@ begun letter t = ne-eqb (length (letter ∷ t)) 0 (λ e. omega arith)
 
 -- the text of a command asks for it
 pub asks : (c : Command) → Fits c → commandOf (lineText c) ≡ c
-unfolding commandOf letterAsked lineText Fits keyText bothText insertAsked writeAsked removeAsked getAsked aloneAsked
+unfolding commandOf letterAsked lineText Fits keyText bothText keyAsked bothAsked aloneAsked
 asks (command.Insert key v) h =
     simp (begun 105 (32 ∷ (pairText (key .high) (key .low) ++ (32 ∷ pairText (v .first) (v .second)))), two-spelled 105 key v (h .0) (h .1))
 asks (command.Remove key) h = simp (begun 114 (32 ∷ pairText (key .high) (key .low)), one-spelled 114 key h)

@@ -1,8 +1,8 @@
 -- The words of an answer: document 01's `full`, `none`, `set` and `bad`, keys and values as 32 hexadecimal digits, `end COUNT`. Every line ends in LF (10). A refusal that the program's own map never gives (1, 2, 5, 6)
 -- is written `bad`.
-use mathlib.Core.List.{List, [], _∷_, _++_, append-assoc}
-use mathlib.Core.Bool.{false, cond}
-use Prim.Native.Nat.{ℕ, zero, suc, _+_, _-_, _<_, _≤_}
+use mathlib.Core.List.{List, [], _∷_, _++_}
+use mathlib.Core.Bool.{cond}
+use Prim.Native.Nat.{ℕ}
 use lib.Dec.{eqb}
 use Rattle.keys.specs.declared.Key.{Key}
 use Rattle.records.specs.declared.Value.{Value}
@@ -30,9 +30,13 @@ setText = 115 ∷ 101 ∷ 116 ∷ 10 ∷ []
 unfoldable pub pairText : ℕ → ℕ → List ℕ
 pairText a b = hexOf a ++ hexOf b
 
+-- `V`, with which a line ends
+unfoldable pub valueText : Value → List ℕ
+valueText v = pairText (v .first) (v .second) ++ newline
+
 -- `K V`
 unfoldable pub entryText : Key → Value → List ℕ
-entryText key v = pairText (key .high) (key .low) ++ (32 ∷ []) ++ pairText (v .first) (v .second) ++ newline
+entryText key v = pairText (key .high) (key .low) ++ (32 ∷ []) ++ valueText v
 
 -- `end COUNT`
 unfoldable pub endText : ℕ → List ℕ

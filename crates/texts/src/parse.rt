@@ -6,7 +6,7 @@ use crate::digits::field_at;
 use keys::Key;
 use records::Value;
 ghost use mathlib.Core.Path.{_≡_};
-ghost use Rattle.texts.specs.Lines.{oneField, twoFields, insertAsked, removeAsked, getAsked, writeAsked, aloneAsked, commandOf};
+ghost use Rattle.texts.specs.Lines.{oneField, twoFields, aloneAsked, commandOf};
 
 // A key behind the letter.
 fn one_field(line: &[u8]) -> OneField
@@ -47,42 +47,6 @@ fn two_fields(line: &[u8]) -> TwoFields
     TwoFields::Not
 }
 
-fn insert_asked(f: TwoFields) -> Command
-    ensures { λ r. ⌜ r ≡ insertAsked f ⌝ }
-{
-    match f {
-        TwoFields::Are(key, v) => Command::Insert(key, v),
-        TwoFields::Not => Command::Bad,
-    }
-}
-
-fn write_asked(f: TwoFields) -> Command
-    ensures { λ r. ⌜ r ≡ writeAsked f ⌝ }
-{
-    match f {
-        TwoFields::Are(key, v) => Command::Write(key, v),
-        TwoFields::Not => Command::Bad,
-    }
-}
-
-fn remove_asked(f: OneField) -> Command
-    ensures { λ r. ⌜ r ≡ removeAsked f ⌝ }
-{
-    match f {
-        OneField::Is(key) => Command::Remove(key),
-        OneField::Not => Command::Bad,
-    }
-}
-
-fn get_asked(f: OneField) -> Command
-    ensures { λ r. ⌜ r ≡ getAsked f ⌝ }
-{
-    match f {
-        OneField::Is(key) => Command::Get(key),
-        OneField::Not => Command::Bad,
-    }
-}
-
 // The letter alone.
 fn alone(line: &[u8], c: Command) -> Command
     ensures { λ r. ⌜ r ≡ aloneAsked (now (line .entry)) c ⌝ }
@@ -101,10 +65,22 @@ pub fn parse(line: &[u8]) -> Command
         return Command::Bad;
     }
     match line[0] {
-        b'i' => insert_asked(two_fields(line)),
-        b'r' => remove_asked(one_field(line)),
-        b'g' => get_asked(one_field(line)),
-        b'w' => write_asked(two_fields(line)),
+        b'i' => match two_fields(line) {
+            TwoFields::Are(key, v) => Command::Insert(key, v),
+            TwoFields::Not => Command::Bad,
+        },
+        b'r' => match one_field(line) {
+            OneField::Is(key) => Command::Remove(key),
+            OneField::Not => Command::Bad,
+        },
+        b'g' => match one_field(line) {
+            OneField::Is(key) => Command::Get(key),
+            OneField::Not => Command::Bad,
+        },
+        b'w' => match two_fields(line) {
+            TwoFields::Are(key, v) => Command::Write(key, v),
+            TwoFields::Not => Command::Bad,
+        },
         b'n' => alone(line, Command::Smallest),
         b'x' => alone(line, Command::Largest),
         b'a' => alone(line, Command::All),

@@ -4,12 +4,12 @@ use records::Refusal;
 use records::Value;
 use records::number;
 ghost use mathlib.Core.Path.{_≡_};
-ghost use mathlib.Core.List.{[], _∷_};
+ghost use mathlib.Core.List.{[], _∷_, _++_};
 ghost use Prim.Native.Nat.{_+_, _<_, _≤_};
 ghost use lib.ListN.{length};
 ghost use Rattle.texts.specs.Put.{Written};
 ghost use Rattle.texts.specs.Digits.{digits, hexOf, widthOf, decimalOf};
-ghost use Rattle.texts.specs.Texts.{pairText, badText, fullText, noneText, endText, entryText, refusalText};
+ghost use Rattle.texts.specs.Texts.{newline, pairText, badText, endText, valueText, entryText, refusalText};
 ghost use Rattle.texts.specs.Digits.{glyph as Digits·glyph};
 
 // One byte.
@@ -35,6 +35,16 @@ pub fn put_four(out: &mut [u8], at: usize, a: u8, b: u8, c: u8, d: u8) -> usize
     at + 4
 }
 
+// Four bytes, as one line.
+fn put_line(out: &mut [u8], at: usize, a: u8, b: u8, c: u8, d: u8) -> usize
+    requires { ⌜ at + 5 ≤ length (now out) ⌝ }
+    ensures place { λ r. ⌜ r ≡ at + 5 ⌝ }
+    ensures text { λ r. ⌜ Written (now (out .entry)) (now (out .exit)) at r ((a ∷ b ∷ c ∷ d ∷ []) ++ newline) ⌝ }
+{
+    let end = put_four(out, at, a, b, c, d);
+    put_byte(out, end, b'\n')
+}
+
 // The byte of a digit.
 fn glyph(d: u8) -> u8
     requires { ⌜ d < 16 ⌝ }
@@ -43,20 +53,30 @@ fn glyph(d: u8) -> u8
     if d < 10 { 48 + d } else { 87 + d }
 }
 
-// A 64-bit number as sixteen hex digits.
-pub fn put_hex(out: &mut [u8], at: usize, n: u64) -> usize
+// The last digits of a number, so many, in a base from 2 to 16.
+fn put_digits(out: &mut [u8], at: usize, n: u32, base: u32, many: usize) -> usize
+    requires { ⌜ (2 ≤ base) × (base ≤ 16) × (at + many ≤ length (now out)) ⌝ }
+    ensures place { λ r. ⌜ r ≡ at + many ⌝ }
+    ensures text { λ r. ⌜ Written (now (out .entry)) (now (out .exit)) at r (digits base many n) ⌝ }
+{
+    let mut k = many;
+    let mut rest = n;
+    while 0 < k {
+        k -= 1;
+        out[at + k] = glyph((rest % base) as u8);
+        rest /= base;
+    }
+    at + many
+}
+
+// A 64-bit number as sixteen hex digits: those of its high half, then those of its low half.
+fn put_hex(out: &mut [u8], at: usize, n: u64) -> usize
     requires { ⌜ at + 16 ≤ length (now out) ⌝ }
     ensures place { λ r. ⌜ r ≡ at + 16 ⌝ }
     ensures text { λ r. ⌜ Written (now (out .entry)) (now (out .exit)) at r (hexOf n) ⌝ }
 {
-    let mut k: usize = 16;
-    let mut rest = n;
-    while 0 < k {
-        k -= 1;
-        out[at + k] = glyph((rest % 16) as u8);
-        rest /= 16;
-    }
-    at + 16
+    let a = put_digits(out, at, (n / 4294967296) as u32, 16, 8);
+    put_digits(out, a, (n % 4294967296) as u32, 16, 8)
 }
 
 // How many decimal digits a number takes.
@@ -93,33 +113,17 @@ fn width(n: u32) -> usize
     10
 }
 
-// The last k decimal digits of a number.
-fn put_digits(out: &mut [u8], at: usize, n: u32, many: usize) -> usize
-    requires { ⌜ at + many ≤ length (now out) ⌝ }
-    ensures place { λ r. ⌜ r ≡ at + many ⌝ }
-    ensures text { λ r. ⌜ Written (now (out .entry)) (now (out .exit)) at r (digits 10 many n) ⌝ }
-{
-    let mut k = many;
-    let mut rest = n;
-    while 0 < k {
-        k -= 1;
-        out[at + k] = glyph((rest % 10) as u8);
-        rest /= 10;
-    }
-    at + many
-}
-
 // A number in decimal.
 pub fn put_decimal(out: &mut [u8], at: usize, n: u32) -> usize
     requires { ⌜ at + 10 ≤ length (now out) ⌝ }
     ensures room { λ r. ⌜ r ≤ at + 10 ⌝ }
     ensures text { λ r. ⌜ Written (now (out .entry)) (now (out .exit)) at r (decimalOf n) ⌝ }
 {
-    put_digits(out, at, n, width(n))
+    put_digits(out, at, n, 10, width(n))
 }
 
 // Two numbers, one behind the other: a key or a value.
-pub fn put_pair(out: &mut [u8], at: usize, first: u64, second: u64) -> usize
+fn put_pair(out: &mut [u8], at: usize, first: u64, second: u64) -> usize
     requires { ⌜ at + 32 ≤ length (now out) ⌝ }
     ensures place { λ r. ⌜ r ≡ at + 32 ⌝ }
     ensures text { λ r. ⌜ Written (now (out .entry)) (now (out .exit)) at r (pairText first second) ⌝ }
@@ -137,26 +141,6 @@ pub fn put_bad(out: &mut [u8], at: usize) -> usize
     put_four(out, at, b'b', b'a', b'd', b'\n')
 }
 
-// `full`
-fn put_full(out: &mut [u8], at: usize) -> usize
-    requires { ⌜ at + 5 ≤ length (now out) ⌝ }
-    ensures place { λ r. ⌜ r ≡ at + 5 ⌝ }
-    ensures text { λ r. ⌜ Written (now (out .entry)) (now (out .exit)) at r fullText ⌝ }
-{
-    let a = put_four(out, at, b'f', b'u', b'l', b'l');
-    put_byte(out, a, b'\n')
-}
-
-// `none`
-fn put_none(out: &mut [u8], at: usize) -> usize
-    requires { ⌜ at + 5 ≤ length (now out) ⌝ }
-    ensures place { λ r. ⌜ r ≡ at + 5 ⌝ }
-    ensures text { λ r. ⌜ Written (now (out .entry)) (now (out .exit)) at r noneText ⌝ }
-{
-    let a = put_four(out, at, b'n', b'o', b'n', b'e');
-    put_byte(out, a, b'\n')
-}
-
 // `end COUNT`
 pub fn put_end(out: &mut [u8], at: usize, count: u32) -> usize
     requires { ⌜ at + 15 ≤ length (now out) ⌝ }
@@ -168,6 +152,16 @@ pub fn put_end(out: &mut [u8], at: usize, count: u32) -> usize
     put_byte(out, b, b'\n')
 }
 
+// A value, and the line's end.
+pub fn put_value(out: &mut [u8], at: usize, v: Value) -> usize
+    requires { ⌜ at + 33 ≤ length (now out) ⌝ }
+    ensures place { λ r. ⌜ r ≡ at + 33 ⌝ }
+    ensures text { λ r. ⌜ Written (now (out .entry)) (now (out .exit)) at r (valueText v) ⌝ }
+{
+    let a = put_pair(out, at, v.first, v.second);
+    put_byte(out, a, b'\n')
+}
+
 // A key and its value, as one line.
 pub fn put_entry(out: &mut [u8], at: usize, key: Key, v: Value) -> usize
     requires { ⌜ at + 66 ≤ length (now out) ⌝ }
@@ -176,8 +170,7 @@ pub fn put_entry(out: &mut [u8], at: usize, key: Key, v: Value) -> usize
 {
     let a = put_pair(out, at, key.high, key.low);
     let b = put_byte(out, a, b' ');
-    let c = put_pair(out, b, v.first, v.second);
-    put_byte(out, c, b'\n')
+    put_value(out, b, v)
 }
 
 // What a refusal is answered.
@@ -188,10 +181,10 @@ pub fn put_refusal(out: &mut [u8], at: usize, why: Refusal) -> usize
 {
     let no = number(why);
     if no == 3 {
-        return put_full(out, at);
+        return put_line(out, at, b'f', b'u', b'l', b'l');
     }
     if no == 4 {
-        return put_none(out, at);
+        return put_line(out, at, b'n', b'o', b'n', b'e');
     }
     put_bad(out, at)
 }

@@ -9,19 +9,15 @@ use Rattle.commands.proofs.answer.put_val.Tie as tie
 put-four-requires : tie.Need-put-four-requires
 put-four-requires c κs = search needs
 
-put-pair-requires : tie.Need-put-pair-requires
-put-pair-requires c κs = search needs
-
-put-byte-requires : tie.Need-put-byte-requires
-put-byte-requires c κs = search needs
+put-value-requires : tie.Need-put-value-requires
+put-value-requires c κs = search needs
 
 same-length : tie.Need-same-length
 same-length c = search needs
 
 returns : tie.Need-returns
 unfolding valText
-returns c = (omega arith, then (then (c .before .before .before .before .before .before .before .before .before .before .put-four .ensures .1) (c .before .before .before .before .before .before .put-pair .ensures .1)) (c .before .before .put-byte .ensures .1))
+returns c = (omega arith, then (c .before .before .before .before .before .before .put-four .ensures .1) (c .before .before .put-value .ensures .1))
 
 pub put-val-spec : {M : Type 1} → statement M
-put-val-spec =
-    tie.close (tie.spec put-four-requires put-pair-requires put-byte-requires same-length returns)
+put-val-spec = tie.close (tie.spec put-four-requires put-value-requires same-length returns)

@@ -33,14 +33,20 @@ write-line-requires c κs = search needs
 enum-told : tie.Need-enum-told
 enum-told c = search needs
 
-smallest-line-requires : tie.Need-smallest-line-requires
-smallest-line-requires c κs = search needs
+get-min-requires : tie.Need-get-min-requires
+get-min-requires c κs = search needs
+
+answer-entry-requires : tie.Need-answer-entry-requires
+answer-entry-requires c κs = search needs
 
 enum-told-2 : tie.Need-enum-told-2
 enum-told-2 c = search needs
 
-largest-line-requires : tie.Need-largest-line-requires
-largest-line-requires c κs = search needs
+get-max-requires : tie.Need-get-max-requires
+get-max-requires c κs = search needs
+
+answer-entry-requires-2 : tie.Need-answer-entry-requires-2
+answer-entry-requires-2 c κs = search needs
 
 enum-told-3 : tie.Need-enum-told-3
 enum-told-3 c = search needs
@@ -102,7 +108,7 @@ same-length-10 c = search needs
 
 returns-5 : tie.Need-returns-5
 unfolding answerOf imageAfter keptBy
-returns-5 c = (omega arith, (simp (c .before .before .before .before .before .enum-told .given .1) (c .before .before .smallest-line .ensures .1), left-alone (simp (c .before .before .before .before .before .enum-told .given .1))))
+returns-5 c = (omega arith, (simp (c .before .before .before .before .before .before .enum-told .given .1, ← c .before .before .before .get-min .ensures) (c .before .before .answer-entry .ensures .1), left-alone (simp (c .before .before .before .before .before .before .enum-told .given .1))))
 
 same-length-11 : tie.Need-same-length-11
 same-length-11 c = search needs
@@ -112,7 +118,7 @@ same-length-12 c = search needs
 
 returns-6 : tie.Need-returns-6
 unfolding answerOf imageAfter keptBy
-returns-6 c = (omega arith, (simp (c .before .before .before .before .before .enum-told2 .given .1) (c .before .before .largest-line .ensures .1), left-alone (simp (c .before .before .before .before .before .enum-told2 .given .1))))
+returns-6 c = (omega arith, (simp (c .before .before .before .before .before .before .enum-told2 .given .1, ← c .before .before .before .get-max .ensures) (c .before .before .answer-entry2 .ensures .1), left-alone (simp (c .before .before .before .before .before .before .enum-told2 .given .1))))
 
 same-length-13 : tie.Need-same-length-13
 same-length-13 c = search needs
@@ -144,9 +150,11 @@ run-spec =
     enum-known-c-4
     write-line-requires
     enum-told
-    smallest-line-requires
+    get-min-requires
+    answer-entry-requires
     enum-told-2
-    largest-line-requires
+    get-max-requires
+    answer-entry-requires-2
     enum-told-3
     put-all-requires
     enum-told-4

@@ -12,26 +12,16 @@ put-pair-requires c κs = search needs
 put-byte-requires : tie.Need-put-byte-requires
 put-byte-requires c κs = search needs
 
-put-pair-requires-2 : tie.Need-put-pair-requires-2
-put-pair-requires-2 c κs = search needs
-
-put-byte-requires-2 : tie.Need-put-byte-requires-2
-put-byte-requires-2 c κs = search needs
+put-value-requires : tie.Need-put-value-requires
+put-value-requires c κs = search needs
 
 same-length : tie.Need-same-length
 same-length c = search needs
 
 returns : tie.Need-returns
 unfolding entryText
-returns c = (omega arith, then (then (then (c .before .before .before .before .before .before .before .before .before .before .before .before .before .before .put-pair .ensures .1) (c .before .before .before .before .before .before .before .before .before .before .put-byte .ensures .1)) (c .before .before .before .before .before .before .put-pair2 .ensures .1)) (c .before .before .put-byte2 .ensures .1))
+returns c = (omega arith, then (then (c .before .before .before .before .before .before .before .before .before .before .put-pair .ensures .1) (c .before .before .before .before .before .before .put-byte .ensures .1)) (c .before .before .put-value .ensures .1))
 
 pub put-entry-spec : {M : Type 1} → statement M
 put-entry-spec =
-    tie.close
-    (tie.spec
-    put-pair-requires
-    put-byte-requires
-    put-pair-requires-2
-    put-byte-requires-2
-    same-length
-    returns)
+    tie.close (tie.spec put-pair-requires put-byte-requires put-value-requires same-length returns)

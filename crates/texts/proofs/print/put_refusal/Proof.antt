@@ -9,25 +9,25 @@ use Rattle.texts.proofs.print.put_refusal.Tie as tie
 number-requires : tie.Need-number-requires
 number-requires c κs = search needs
 
-put-full-requires : tie.Need-put-full-requires
-put-full-requires c κs = search needs
+put-line-requires : tie.Need-put-line-requires
+put-line-requires c κs = search needs
 
 same-length : tie.Need-same-length
 same-length c = search needs
 
 returns : tie.Need-returns
 unfolding refusalText
-returns c = (omega arith, simp (← c .before .before .before .before .before .number .ensures, eq-eqb _ _ (c .before .before .before .before .if1 .taken)) (c .before .before .put-full .ensures .1))
+returns c = (omega arith, simp (← c .before .before .before .before .before .number .ensures, eq-eqb _ _ (c .before .before .before .before .if1 .taken)) (c .before .before .put-line .ensures .1))
 
-put-none-requires : tie.Need-put-none-requires
-put-none-requires c κs = search needs
+put-line-requires-2 : tie.Need-put-line-requires-2
+put-line-requires-2 c κs = search needs
 
 same-length-2 : tie.Need-same-length-2
 same-length-2 c = search needs
 
 returns-2 : tie.Need-returns-2
 unfolding refusalText
-returns-2 c = (omega arith, simp (← c .before .before .before .before .before .before .number .ensures, ne-eqb _ _ (c .before .before .before .before .before .if1 .left), eq-eqb _ _ (c .before .before .before .before .if2 .taken)) (c .before .before .put-none .ensures .1))
+returns-2 c = (omega arith, simp (← c .before .before .before .before .before .before .number .ensures, ne-eqb _ _ (c .before .before .before .before .before .if1 .left), eq-eqb _ _ (c .before .before .before .before .if2 .taken)) (c .before .before .put-line2 .ensures .1))
 
 put-bad-requires : tie.Need-put-bad-requires
 put-bad-requires c κs = search needs
@@ -44,10 +44,10 @@ put-refusal-spec =
     tie.close
     (tie.spec
     number-requires
-    put-full-requires
+    put-line-requires
     same-length
     returns
-    put-none-requires
+    put-line-requires-2
     same-length-2
     returns-2
     put-bad-requires
