@@ -1,4 +1,4 @@
--- The visited-node test and the turns of lookup and remove by the kind of node, as the code makes them: the rest of the test where Value is 0, and where it is not. `inner` and
+-- The visited-node test and both turns by the kind of node, as the code makes them: the rest of the test where Value is 0, and where it is not. `inner` and
 -- `leaf` say that they are the descent's step.
 use mathlib.Core.Path.{_≡_, refl, sym, ap, _∙_}
 use mathlib.Core.List.{List}
@@ -21,7 +21,8 @@ use Rattle.records.specs.Tests.{usedNode, formOk, nodeOk}
 use Rattle.descent.specs.declared.Stop.the-variants.{Leaf, Parted, Damaged}
 use Rattle.descent.specs.declared.Step.{Step}
 use Rattle.descent.specs.declared.Step.the-variants.{Down, Halt}
-use Rattle.descent.specs.Descent.{childOf, lookupTurn, reachTurn, stepOf}
+use Rattle.descent.specs.Descent.{childOf, lookupTurn, stepOf}
+use Rattle.descent.specs.Bits.{bitsTurn}
 
 -- padding, and the node that it was reached from
 abbrev pub isJoined : ℕ → Node → Bool
@@ -53,15 +54,8 @@ leafStep h key i above low x =
     (cond (ltb (common (numberOf key) (numberOf (x .key))) (x .prefix)) (Halt (Parted i)) (Halt (Leaf i (x .value))))
     (Halt Damaged)
 
-unfoldable pub reachInner : Header → Key → NodeIndex → NodeIndex → ℕ → Node → Step
-reachInner h key i above low x = cond (innerOk h (above .0) low x) (Down (childOf key x) (x .prefix + 1)) (Halt Damaged)
-
-unfoldable pub reachLeaf : Header → Key → NodeIndex → NodeIndex → ℕ → Node → Step
-reachLeaf h key i above low x =
-    cond (leafOk h (above .0) low x) (cond (eqb (numberOf key) (numberOf (x .key))) (Halt (Leaf i (x .value))) (Halt (Parted i))) (Halt Damaged)
-
-pub forked-small : (x : Node) → isForked x ≡ true → x .prefix < 128
-forked-small x e = ltb-true (x .prefix) 128 (search (and-l, and-r))
+pub inner-small : (h : Header) (above low : ℕ) (x : Node) → innerOk h above low x ≡ true → x .prefix < 128
+inner-small h above low x e = ltb-true (x .prefix) 128 (search (and-l, and-r) depth 8)
 
 -- ---- the tests by kind are the test
 
@@ -113,10 +107,10 @@ module _ (h : Header) (ws : List ℕ) (key : Key) (i above : NodeIndex) (low : �
   unfolding lookupTurn leafStep
   leaf v = any-leaf (lookupTurn key) h ws i above low x node u v ∙ simp (ne-eqb (x .value .0) 0 v)
 
-  pub reach-inner : x .value .0 ≡ 0 → stepOf (reachTurn key) h ws i above low ≡ reachInner h key i above low x
-  unfolding reachTurn reachInner
-  reach-inner v = any-inner (reachTurn key) h ws i above low x node u v ∙ simp v
+  pub bits-inner : x .value .0 ≡ 0 → stepOf (bitsTurn key) h ws i above low ≡ cond (innerOk h (above .0) low x) (Down (childOf key x) (x .prefix + 1)) (Halt Damaged)
+  unfolding bitsTurn
+  bits-inner v = any-inner (bitsTurn key) h ws i above low x node u v ∙ simp v
 
-  pub reach-leaf : (x .value .0 ≡ 0 → ⊥) → stepOf (reachTurn key) h ws i above low ≡ reachLeaf h key i above low x
-  unfolding reachTurn reachLeaf
-  reach-leaf v = any-leaf (reachTurn key) h ws i above low x node u v ∙ simp (ne-eqb (x .value .0) 0 v)
+  pub bits-leaf : (x .value .0 ≡ 0 → ⊥) → stepOf (bitsTurn key) h ws i above low ≡ cond (leafOk h (above .0) low x) (Halt (Leaf i (x .value))) (Halt Damaged)
+  unfolding bitsTurn
+  bits-leaf v = any-leaf (bitsTurn key) h ws i above low x node u v ∙ simp (ne-eqb (x .value .0) 0 v)

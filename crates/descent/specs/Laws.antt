@@ -21,7 +21,7 @@ use Rattle.descent.specs.declared.Stop.{Stop}
 use Rattle.descent.specs.declared.Stop.the-variants.{Damaged}
 use Rattle.descent.specs.declared.Step.{Step}
 use Rattle.descent.specs.declared.Step.the-variants.{Down, Halt}
-use Rattle.descent.specs.Descent.{isInner, childOf, lookupTurn, reachTurn, endTurn, stepOf, follow, descend}
+use Rattle.descent.specs.Descent.{isInner, lookupTurn, stepOf, follow, descend}
 
 -- ---- what a passed visited-node test tells of the prefix length
 
@@ -55,7 +55,7 @@ Turns turn = (i : NodeIndex) (x : Node) (c : NodeIndex) (p : ℕ) → turn i x �
 never-down : {s : Stop} {c : NodeIndex} {p : ℕ} → Halt s ≡ Down c p → ⊥
 never-down e = let z : _≡_ {A = ℕ} 0 1 = cc in omega arith
 
-went-down : (inner : Bool) (c₀ c : NodeIndex) (p₀ p : ℕ) (s : Stop) → cond inner (Down c₀ p₀) (Halt s) ≡ Down c p → (inner ≡ true) × (p₀ ≡ p)
+pub went-down : (inner : Bool) (c₀ c : NodeIndex) (p₀ p : ℕ) (s : Stop) → cond inner (Down c₀ p₀) (Halt s) ≡ Down c p → (inner ≡ true) × (p₀ ≡ p)
 went-down true c₀ c p₀ p s e = (refl, cc)
 went-down false c₀ c p₀ p s e = absurd (never-down e)
 
@@ -63,27 +63,10 @@ past-test : (b : Bool) (s : Stop) (t : Step) (c : NodeIndex) (p : ℕ) → cond 
 past-test true s t c p e = absurd (never-down e)
 past-test false s t c p e = e
 
-either-halt : (inner b : Bool) (c₀ c : NodeIndex) (p₀ p : ℕ) (s t : Stop) → cond inner (Down c₀ p₀) (cond b (Halt s) (Halt t)) ≡ Down c p → (inner ≡ true) × (p₀ ≡ p)
-either-halt true b c₀ c p₀ p s t e = (refl, cc)
-either-halt false true c₀ c p₀ p s t e = absurd (never-down e)
-either-halt false false c₀ c p₀ p s t e = absurd (never-down e)
-
 pub lookup-turns : (key : Key) → Turns (lookupTurn key)
 unfolding lookupTurn
 lookup-turns key i x c p e =
     let d = went-down (isInner x) _ _ _ _ _ (past-test (ltb (common (numberOf key) (numberOf (x .key))) (x .prefix)) _ _ c p e) in
-    (eqb-true (x .value .0) 0 (d .0), d .1)
-
-pub reach-turns : (key : Key) → Turns (reachTurn key)
-unfolding reachTurn
-reach-turns key i x c p e =
-    let d = either-halt (isInner x) (eqb (numberOf key) (numberOf (x .key))) _ _ _ _ _ _ e in
-    (eqb-true (x .value .0) 0 (d .0), d .1)
-
-pub end-turns : (right : Bool) → Turns (endTurn right)
-unfolding endTurn
-end-turns right i x c p e =
-    let d = went-down (isInner x) _ _ _ _ _ e in
     (eqb-true (x .value .0) 0 (d .0), d .1)
 
 -- ---- a step of any descent

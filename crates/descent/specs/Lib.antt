@@ -1,4 +1,5 @@
 -- What the contracts of `descent` cite: the descents and their turns.
 pub mod Descent
-pub mod ByKind
 pub mod Laws
+pub mod Bits
+pub mod ByKind

@@ -1,5 +1,5 @@
-// The descents from the root: by a key whose prefixes are compared, as lookup and insert go; by a key's bits alone, as remove goes; and always to
-// one side, for the smallest and the largest entry. Each visited node is tested before it is relied on, and each descent is a loop
+// The descents from the root: by a key whose prefixes are compared, as lookup and insert go; and by a key's bits alone, as remove goes, and as the
+// smallest and the largest entry are reached by the bits of the smallest and the largest key. Each visited node is tested before it is relied on, and each descent is a loop
 // left by break with the node and the reason it stopped.
 use keys::Key;
 use keys::bit;
@@ -9,16 +9,17 @@ use records::Header;
 use records::Node;
 use records::NodeIndex;
 use records::ValueIndex;
+use records::read::key_of;
 use records::read::node_in;
 use records::tests::is_used;
-use records::tests::node_ok;
 ghost use mathlib.Core.Path.{_≡_};
 ghost use Prim.Native.Nat.{_+_, _*_, _≤_};
 ghost use lib.ListN.{length};
 ghost use Rattle.words.specs.Words.{words};
 ghost use Rattle.records.specs.Room.{Room};
-ghost use Rattle.descent.specs.ByKind.{isJoined, isForked, leafOk, innerStep, leafStep, reachInner, reachLeaf};
-ghost use Rattle.descent.specs.Descent.{childOf, sideOf, lookupTurn, reachTurn, endTurn, stepOf, descend, findOf, reachOf, endOf};
+ghost use Rattle.descent.specs.Bits.{bitsTurn, allBits};
+ghost use Rattle.descent.specs.ByKind.{isJoined, isForked, innerOk, leafOk, innerStep, leafStep};
+ghost use Rattle.descent.specs.Descent.{childOf, lookupTurn, stepOf, descend, findOf, reachOf, endOf};
 
 // Why a descent stopped, and where: at a leaf that fits, with its value record; at a node where the key parts from the map; at damage.
 pub enum Stop {
@@ -69,22 +70,31 @@ fn leaf_ok(h: Header, above: NodeIndex, low: u64, x: Node) -> bool
         & ((above.0 != 0) | (h.values.size == 1))
 }
 
-// An inner node: damaged, parted, or down.
-fn inner_step(h: Header, key: Key, i: NodeIndex, above: NodeIndex, low: u64, x: Node) -> Step
-    ensures { λ r. ⌜ r ≡ innerStep h key i above low x ⌝ }
+// A visited inner node.
+fn inner_ok(h: Header, above: NodeIndex, low: u64, x: Node) -> bool
+    ensures { λ r. ⌜ r ≡ innerOk h (above .0) low x ⌝ }
 {
     if is_joined(above, x) {
         if low <= x.prefix {
             if is_forked(x) {
-                if (above.0 != 0) | (h.values.size != 1) {
-                    if leading_equal(key, x.key) < x.prefix {
-                        return Step::Halt(Stop::Parted(i));
-                    }
-                    let next = child(key, x);
-                    return Step::Down(next, x.prefix + 1);
-                }
+                return (above.0 != 0) | (h.values.size != 1);
             }
         }
+    }
+    false
+}
+
+// An inner node: damaged, parted, or down.
+fn inner_step(h: Header, key: Key, i: NodeIndex, above: NodeIndex, low: u64, x: Node) -> Step
+    ensures { λ r. ⌜ r ≡ innerStep h key i above low x ⌝ }
+{
+    if inner_ok(h, above, low, x) {
+        let prefix = x.prefix;
+        if leading_equal(key, x.key) < prefix {
+            return Step::Halt(Stop::Parted(i));
+        }
+        let next = child(key, x);
+        return Step::Down(next, prefix + 1);
     }
     Step::Halt(Stop::Damaged)
 }
@@ -150,60 +160,38 @@ pub fn find(img: &[u8], h: Header, key: Key) -> Stop
 
 // ---- by a key's bits alone
 
-// An inner node: damaged, or down.
-fn reach_inner(h: Header, key: Key, i: NodeIndex, above: NodeIndex, low: u64, x: Node) -> Step
-    ensures { λ r. ⌜ r ≡ reachInner h key i above low x ⌝ }
-{
-    if is_joined(above, x) {
-        if low <= x.prefix {
-            if is_forked(x) {
-                if (above.0 != 0) | (h.values.size != 1) {
-                    let next = child(key, x);
-                    return Step::Down(next, x.prefix + 1);
-                }
-            }
-        }
-    }
-    Step::Halt(Stop::Damaged)
-}
-
-// A leaf: damaged, the key's, or another's.
-fn reach_leaf(h: Header, key: Key, i: NodeIndex, above: NodeIndex, low: u64, x: Node) -> Step
-    ensures { λ r. ⌜ r ≡ reachLeaf h key i above low x ⌝ }
-{
-    if leaf_ok(h, above, low, x) {
-        if same(key, x.key) {
-            let j = x.value;
-            return Step::Halt(Stop::Leaf(i, j));
-        }
-        return Step::Halt(Stop::Parted(i));
-    }
-    Step::Halt(Stop::Damaged)
-}
-
-fn reach_step(img: &[u8], h: Header, key: Key, i: NodeIndex, above: NodeIndex, low: u64) -> Step
+// One node of the descent: damaged, down, or the leaf.
+fn bits_step(img: &[u8], h: Header, key: Key, i: NodeIndex, above: NodeIndex, low: u64) -> Step
     requires { ⌜ Room h (length (words (now img))) ⌝ }
-    ensures { λ r. ⌜ r ≡ stepOf (reachTurn key) h (words (now (img .entry))) i above low ⌝ }
+    ensures { λ r. ⌜ r ≡ stepOf (bitsTurn key) h (words (now (img .entry))) i above low ⌝ }
 {
     if is_used(h, i) {
         let x = node_in(img, i);
         if x.value.0 == 0 {
-            return reach_inner(h, key, i, above, low, x);
+            if inner_ok(h, above, low, x) {
+                let next = child(key, x);
+                return Step::Down(next, x.prefix + 1);
+            }
+            return Step::Halt(Stop::Damaged);
         }
-        return reach_leaf(h, key, i, above, low, x);
+        if leaf_ok(h, above, low, x) {
+            let j = x.value;
+            return Step::Halt(Stop::Leaf(i, j));
+        }
     }
     Step::Halt(Stop::Damaged)
 }
 
-fn reach_from(img: &[u8], h: Header, key: Key) -> Stop
+// The leaf that a key's bits lead to.
+fn leaf_from(img: &[u8], h: Header, key: Key) -> Stop
     requires { ⌜ Room h (length (words (now img))) ⌝ }
-    ensures { λ r. ⌜ r ≡ descend (reachTurn key) 129 h (words (now (img .entry))) (h .root) (record { 0 = 0 }) 0 ⌝ }
+    ensures { λ r. ⌜ r ≡ descend (bitsTurn key) 129 h (words (now (img .entry))) (h .root) (record { 0 = 0 }) 0 ⌝ }
 {
     let mut at = h.root;
     let mut above = NodeIndex(0);
     let mut low: u64 = 0;
     loop {
-        match reach_step(img, h, key, at, above, low) {
+        match bits_step(img, h, key, at, above, low) {
             Step::Down(next, least) => {
                 above = at;
                 at = next;
@@ -222,62 +210,29 @@ pub fn reach(img: &[u8], h: Header, key: Key) -> Stop
     if h.values.size == 0 {
         return Stop::Parted(NodeIndex(0));
     }
-    reach_from(img, h, key)
+    match leaf_from(img, h, key) {
+        Stop::Leaf(i, j) => {
+            if same(key, key_of(img, i)) {
+                return Stop::Leaf(i, j);
+            }
+            Stop::Parted(i)
+        }
+        Stop::Parted(i) => Stop::Parted(i),
+        Stop::Damaged => Stop::Damaged,
+    }
 }
 
-// ---- always to one side
-
-fn side(right: bool, x: Node) -> NodeIndex
-    ensures { λ r. ⌜ r ≡ sideOf right x ⌝ }
+// The key whose bits are all 0, or all 1.
+fn all_bits(right: bool) -> Key
+    ensures { λ r. ⌜ r ≡ allBits right ⌝ }
 {
     if right {
-        return x.right;
+        return Key {
+            high: u64::MAX,
+            low: u64::MAX,
+        };
     }
-    x.left
-}
-
-fn end_turn(right: bool, i: NodeIndex, x: Node) -> Step
-    requires { ⌜ x .prefix ≤ 128 ⌝ }
-    ensures { λ r. ⌜ r ≡ endTurn right i x ⌝ }
-{
-    if x.value.0 == 0 {
-        let next = side(right, x);
-        return Step::Down(next, x.prefix + 1);
-    }
-    let j = x.value;
-    Step::Halt(Stop::Leaf(i, j))
-}
-
-fn end_step(img: &[u8], h: Header, right: bool, i: NodeIndex, above: NodeIndex, low: u64) -> Step
-    requires { ⌜ Room h (length (words (now img))) ⌝ }
-    ensures { λ r. ⌜ r ≡ stepOf (endTurn right) h (words (now (img .entry))) i above low ⌝ }
-{
-    if is_used(h, i) {
-        let x = node_in(img, i);
-        if node_ok(h, i, above, low, x) {
-            return end_turn(right, i, x);
-        }
-    }
-    Step::Halt(Stop::Damaged)
-}
-
-fn end_from(img: &[u8], h: Header, right: bool) -> Stop
-    requires { ⌜ Room h (length (words (now img))) ⌝ }
-    ensures { λ r. ⌜ r ≡ descend (endTurn right) 129 h (words (now (img .entry))) (h .root) (record { 0 = 0 }) 0 ⌝ }
-{
-    let mut at = h.root;
-    let mut above = NodeIndex(0);
-    let mut low: u64 = 0;
-    loop {
-        match end_step(img, h, right, at, above, low) {
-            Step::Down(next, least) => {
-                above = at;
-                at = next;
-                low = least;
-            }
-            Step::Halt(stop) => break stop,
-        }
-    }
+    Key { high: 0, low: 0 }
 }
 
 // The first leaf from the left, or from the right: the Rust's `find_min` and `find_max`.
@@ -288,5 +243,5 @@ pub fn find_end(img: &[u8], h: Header, right: bool) -> Stop
     if h.values.size == 0 {
         return Stop::Parted(NodeIndex(0));
     }
-    end_from(img, h, right)
+    leaf_from(img, h, all_bits(right))
 }

@@ -1,0 +1,109 @@
+-- The descent by a key's bits alone, to the leaf that they lead to. Remove compares that leaf's key. The smallest entry is where the bits of 0 lead, and the largest where those of 2^128 - 1 do.
+use mathlib.Core.Path.{_≡_, refl, sym}
+use mathlib.Core.List.{List}
+use mathlib.Core.Logic.{⊎-elim}
+use mathlib.Core.Bool.{Bool, true, false, cond, _&&_, Bool·beq}
+use Prim.Native.Nat.{ℕ, zero, suc, _+_, _≤_, _<_}
+use native.Mathlib.Omega.{arith}
+use native.Mathlib.Nat.{eq-or-lt-of-le}
+use lib.Dec.{eqb}
+use borrow.Author.Tests.{eqb-true}
+use Rattle.words.specs.Tests.{and-l, and-r}
+use Rattle.keys.specs.declared.Key.{Key}
+use Rattle.keys.specs.Number.{numberOf}
+use Rattle.keys.specs.Common.{bitOf}
+use Rattle.records.specs.declared.Header.{Header}
+use Rattle.records.specs.declared.Node.{Node}
+use Rattle.records.specs.declared.NodeIndex.{NodeIndex}
+use Rattle.records.specs.Records.{nodeOf}
+use Rattle.records.specs.Tests.{nodeOk}
+use Rattle.descent.specs.declared.Stop.{Stop}
+use Rattle.descent.specs.declared.Stop.the-variants.{Leaf, Parted, Damaged}
+use Rattle.descent.specs.declared.Step.{Step}
+use Rattle.descent.specs.declared.Step.the-variants.{Down, Halt}
+use Rattle.descent.specs.Descent.{isInner, childOf, reachTurn, sideOf, endTurn, stepOf, follow, descend}
+use Rattle.descent.specs.Laws.{Turns, went-down, passed}
+
+unfoldable pub bitsTurn : Key → NodeIndex → Node → Step
+bitsTurn key i x = cond (isInner x) (Down (childOf key x) (x .prefix + 1)) (Halt (Leaf i (x .value)))
+
+pub bits-turns : (key : Key) → Turns (bitsTurn key)
+unfolding bitsTurn
+bits-turns key i x c p e =
+    let d = went-down (isInner x) _ _ _ _ _ e in
+    (eqb-true (x .value .0) 0 (d .0), d .1)
+
+-- ---- remove's descent: the leaf's key is compared where the bits have led
+
+unfoldable pub compared : Key → List ℕ → Stop → Stop
+compared key ws (Leaf i j) = cond (eqb (numberOf key) (numberOf (nodeOf ws (i .0) .key))) (Leaf i j) (Parted i)
+compared key ws (Parted i) = Parted i
+compared key ws Damaged = Damaged
+
+module _ (key : Key) (h : Header) (ws : List ℕ) where
+  pub reaches : (fuel : ℕ) (i above : NodeIndex) (low : ℕ) → compared key ws (descend (bitsTurn key) fuel h ws i above low) ≡ descend (reachTurn key) fuel h ws i above low
+  unfolding descend stepOf bitsTurn reachTurn compared
+  reaches zero i above low = refl
+  reaches (suc fuel) i above low =
+      go (nodeOk h (i .0) (above .0) low (nodeOf ws (i .0))) (isInner (nodeOf ws (i .0))) (eqb (numberOf key) (numberOf (nodeOf ws (i .0) .key))) refl
+      (reaches fuel (childOf key (nodeOf ws (i .0))) i (nodeOf ws (i .0) .prefix + 1))
+    where
+      go : (ok inner same : Bool) → eqb (numberOf key) (numberOf (nodeOf ws (i .0) .key)) ≡ same
+          → compared key ws (descend (bitsTurn key) fuel h ws (childOf key (nodeOf ws (i .0))) i (nodeOf ws (i .0) .prefix + 1))
+          ≡ descend (reachTurn key) fuel h ws (childOf key (nodeOf ws (i .0))) i (nodeOf ws (i .0) .prefix + 1)
+          → compared key ws (follow (λ c next. descend (bitsTurn key) fuel h ws c i next) (cond ok (cond inner (Down (childOf key (nodeOf ws (i .0))) (nodeOf ws (i .0) .prefix + 1)) (Halt (Leaf i (nodeOf ws (i .0) .value)))) (Halt Damaged)))
+          ≡ follow (λ c next. descend (reachTurn key) fuel h ws c i next) (cond ok (cond inner (Down (childOf key (nodeOf ws (i .0))) (nodeOf ws (i .0) .prefix + 1)) (cond same (Halt (Leaf i (nodeOf ws (i .0) .value))) (Halt (Parted i)))) (Halt Damaged))
+      go false inner same e on = refl
+      go true true same e on = on
+      go true false true e on = rw e
+      go true false false e on = rw e
+
+-- ---- the way to an end
+
+-- every bit is the side's
+abbrev pub allBits : Bool → Key
+allBits false = record { high = 0; low = 0 }
+allBits true = record { high = 18446744073709551615; low = 18446744073709551615 }
+
+-- the first n bits are
+abbrev first : Bool → ℕ → Bool
+first right zero = true
+first right (suc n) = first right n && Bool·beq (bitOf (numberOf (allBits right)) n) right
+
+both-same : (a b : Bool) → Bool·beq a b ≡ true → a ≡ b
+both-same true true e = refl
+both-same false false e = refl
+both-same true false e = sym e
+both-same false true e = e
+
+among-first : (right : Bool) (n p : ℕ) → first right n ≡ true → p < n → bitOf (numberOf (allBits right)) p ≡ right
+among-first right zero p e l = absurd (omega arith)
+among-first right (suc n) p e l =
+    ⊎-elim
+    (λ (s : p ≡ n). rw s (both-same _ _ (and-r (first right n) _ e)))
+    (λ (s : p < n). among-first right n p (and-l (first right n) _ e) s)
+    (eq-or-lt-of-le (omega arith))
+
+all-bits : (right : Bool) (p : ℕ) → p < 128 → bitOf (numberOf (allBits right)) p ≡ right
+unfolding numberOf bitOf
+all-bits false p l = among-first false 128 p refl l
+all-bits true p l = among-first true 128 p refl l
+
+module _ (right : Bool) (h : Header) (ws : List ℕ) where
+  pub ends : (fuel : ℕ) (i above : NodeIndex) (low : ℕ) → descend (bitsTurn (allBits right)) fuel h ws i above low ≡ descend (endTurn right) fuel h ws i above low
+  unfolding descend stepOf bitsTurn endTurn childOf
+  ends zero i above low = refl
+  ends (suc fuel) i above low = go (nodeOk h (i .0) (above .0) low (nodeOf ws (i .0))) refl (isInner (nodeOf ws (i .0))) refl (ends fuel (sideOf right (nodeOf ws (i .0))) i (nodeOf ws (i .0) .prefix + 1))
+    where
+      go : (ok : Bool) → nodeOk h (i .0) (above .0) low (nodeOf ws (i .0)) ≡ ok → (inner : Bool) → isInner (nodeOf ws (i .0)) ≡ inner
+          → descend (bitsTurn (allBits right)) fuel h ws (sideOf right (nodeOf ws (i .0))) i (nodeOf ws (i .0) .prefix + 1)
+          ≡ descend (endTurn right) fuel h ws (sideOf right (nodeOf ws (i .0))) i (nodeOf ws (i .0) .prefix + 1)
+          → follow (λ c next. descend (bitsTurn (allBits right)) fuel h ws c i next)
+          (cond ok (cond inner (Down (cond (bitOf (numberOf (allBits right)) (nodeOf ws (i .0) .prefix)) (nodeOf ws (i .0) .right) (nodeOf ws (i .0) .left)) (nodeOf ws (i .0) .prefix + 1)) (Halt (Leaf i (nodeOf ws (i .0) .value)))) (Halt Damaged))
+          ≡ follow (λ c next. descend (endTurn right) fuel h ws c i next)
+          (cond ok (cond inner (Down (sideOf right (nodeOf ws (i .0))) (nodeOf ws (i .0) .prefix + 1)) (Halt (Leaf i (nodeOf ws (i .0) .value)))) (Halt Damaged))
+      go false t inner v on = refl
+      go true t false v on = refl
+      go true t true v on =
+          let p : nodeOf ws (i .0) .prefix < 128 = passed h (i .0) (above .0) low (nodeOf ws (i .0)) t .inner (eqb-true (nodeOf ws (i .0) .value .0) 0 v) in
+          rw (all-bits right (nodeOf ws (i .0) .prefix) p) on
