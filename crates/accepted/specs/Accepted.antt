@@ -10,7 +10,7 @@ use Rattle.node_allocator.specs.Layout.{nodeAt, valueAt}
 use Rattle.records.specs.declared.Header.{Header}
 use Rattle.records.specs.declared.Value.{Value}
 use Rattle.records.specs.Records.{headerOf, nodeOf, valueRecordOf}
-use Rattle.records.specs.Room.{Shaped}
+use Rattle.inspection.specs.Room.{Shaped}
 use Rattle.trees.specs.Lists.{All}
 use Rattle.trees.specs.Tree.{Tree, leaf, inner, top, entries}
 use Rattle.trees.specs.Map.{Map, listOf, OrderedMap}

@@ -13,7 +13,7 @@ use Rattle.keys.specs.declared.Key.{Key}
 use Rattle.records.specs.declared.Header.{Header}
 use Rattle.records.specs.declared.Node.{Node}
 use Rattle.records.specs.Records.{nodeOf}
-use Rattle.records.specs.Tests.{usedNode, leafForm, innerForm, formOk, nodeOk, kidsOk}
+use Rattle.inspection.specs.Tests.{usedNode, leafForm, innerForm, formOk, nodeOk, kidsOk}
 use Rattle.trees.specs.Lists.{All, all-append}
 use Rattle.trees.specs.Tree.{Tree, leaf, inner, top, entries}
 use Rattle.trees.specs.Map.{Map, listOf}

@@ -15,12 +15,12 @@ use Rattle.node_allocator.specs.Steps.{linkOk}
 use Rattle.records.specs.declared.Header.{Header}
 use Rattle.records.specs.declared.Node.{Node}
 use Rattle.records.specs.declared.ValueRecord.{ValueRecord}
-use Rattle.records.specs.declared.Opened.the-variants.{Good, Shut}
+use Rattle.inspection.specs.declared.Opened.the-variants.{Good, Shut}
 use Rattle.records.specs.Layout.{imageLength, mostValues, mostNodes}
 use Rattle.records.specs.Records.{headerOf}
-use Rattle.records.specs.Tests.{shapeOk, arenaOk, countsOk, headerOk, liveValue, freeNode, freeValue}
-use Rattle.records.specs.Opening.{openOf}
-use Rattle.records.specs.Room.{Shaped, shaped}
+use Rattle.inspection.specs.Tests.{shapeOk, arenaOk, countsOk, headerOk, liveValue, freeNode, freeValue}
+use Rattle.inspection.specs.Opening.{openOf}
+use Rattle.inspection.specs.Room.{Shaped, shaped}
 use Rattle.accepted.specs.Rules.{ArenaRules, HeaderRules, Live, Link, FreeNode, FreeValue}
 
 -- ---- two tests agree exactly if their facts do

@@ -12,7 +12,7 @@ use Rattle.records.specs.declared.Header.{Header}
 use Rattle.records.specs.declared.Node.{Node}
 use Rattle.records.specs.declared.ValueRecord.{ValueRecord}
 use Rattle.records.specs.Records.{headerOf, nodeOf, valueRecordOf}
-use Rattle.records.specs.Room.{Shaped}
+use Rattle.inspection.specs.Room.{Shaped}
 use Rattle.trees.specs.Lists.{All, all-map}
 use Rattle.views.specs.Small.{Small}
 use Rattle.accepted.specs.Rules.{ArenaRules, FreeNode, FreeValue, Chain}

@@ -14,7 +14,7 @@ use Rattle.records.specs.declared.Header.{Header}
 use Rattle.records.specs.declared.Value.{Value}
 use Rattle.records.specs.declared.Refusal.the-variants as no
 use Rattle.records.specs.Records.{headerOf, valueRecordOf}
-use Rattle.records.specs.Opening.{openOf}
+use Rattle.inspection.specs.Opening.{openOf}
 use Rattle.insert.specs.declared.Plan.the-variants.{First, Replace, Split, Refused}
 use Rattle.insert.specs.Plan.{firstPlan, stopPlan, planOf}
 use Rattle.insert.specs.Steps.{openedPlan}

@@ -21,8 +21,8 @@ use Rattle.records.specs.declared.Refusal.the-variants as no
 use Rattle.records.specs.declared.Value.{Value}
 use Rattle.records.specs.Layout.{imageLength}
 use Rattle.records.specs.Records.{headerOf, nodeOf, recordFrom, valueRecordOf}
-use Rattle.records.specs.Tests.{arenaOk, countsOk, headerOk, formOk, nodeOk, kidsOk, freeNode, freeValue}
-use Rattle.records.specs.Opening.{openOf}
+use Rattle.inspection.specs.Tests.{arenaOk, countsOk, headerOk, formOk, nodeOk, kidsOk, freeNode, freeValue}
+use Rattle.inspection.specs.Opening.{openOf}
 use Rattle.records.specs.Writes.{setContent, setValue}
 use Rattle.descent.specs.Descent.{childOf, lookupTurn, reachTurn, stepOf, descend, fromRoot}
 use Rattle.lookup.specs.Start.{started, startOf, doneImage, startImage}

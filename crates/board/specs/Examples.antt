@@ -11,8 +11,8 @@ use Rattle.keys.specs.Number.{numberOf}
 use Rattle.keys.specs.Common.{commonOf, common, bitOf}
 use Rattle.records.specs.Layout.{imageOf}
 use Rattle.records.specs.Records.{headerOf, nodeOf, recordFrom}
-use Rattle.records.specs.Tests.{arenaOk, countsOk, headerOk, formOk, nodeOk, freeNode, freeValue}
-use Rattle.records.specs.Opening.{openOf}
+use Rattle.inspection.specs.Tests.{arenaOk, countsOk, headerOk, formOk, nodeOk, freeNode, freeValue}
+use Rattle.inspection.specs.Opening.{openOf}
 use Rattle.records.specs.Numbers.{doneNumber, gotNumber, gotValue, refusalNumber}
 use Rattle.descent.specs.Descent.{lookupTurn, childOf, stepOf, descend, fromRoot}
 use Rattle.lookup.specs.Get.{leafTarget, stopTarget, openedTarget, targetOf, targetGot, getOf}

@@ -17,8 +17,8 @@ use Rattle.records.specs.declared.Got.{Got}
 use Rattle.records.specs.declared.Got.the-variants as got
 use Rattle.records.specs.Layout.{imageOf}
 use Rattle.records.specs.Records.{headerOf}
-use Rattle.records.specs.Tests.{shapeOk, headerOk}
-use Rattle.records.specs.Room.{shaped, shaped-whole, whole-words}
+use Rattle.inspection.specs.Tests.{shapeOk, headerOk}
+use Rattle.inspection.specs.Room.{shaped, shaped-whole, whole-words}
 use Rattle.records.specs.Numbers.{refusalNumber, doneNumber, gotNumber, gotValue}
 use Rattle.lookup.specs.Get.{getOf}
 use Rattle.lookup.specs.Promises.{get-numbers}

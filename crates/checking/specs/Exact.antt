@@ -19,9 +19,9 @@ use Rattle.records.specs.declared.Done.{Done}
 use Rattle.records.specs.declared.Done.the-variants as done
 use Rattle.records.specs.declared.Refusal.the-variants as no
 use Rattle.records.specs.Records.{headerOf}
-use Rattle.records.specs.Tests.{shapeOk, headerOk}
+use Rattle.inspection.specs.Tests.{shapeOk, headerOk}
 use Rattle.records.specs.Numbers.{zeroKey, refusalNumber, doneNumber}
-use Rattle.records.specs.Room.{shaped}
+use Rattle.inspection.specs.Room.{shaped}
 use Rattle.full_check.specs.Walk.{Walk, walkOf}
 use Rattle.full_check.specs.Chains.{nodesUnused, valuesUnused}
 use Rattle.full_check.specs.Check.{unmarked, rootWalk, treeOk, recordsOk, checkOf}

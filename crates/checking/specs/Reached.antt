@@ -13,7 +13,7 @@ use Rattle.keys.specs.declared.Key.{Key}
 use Rattle.records.specs.declared.Header.{Header}
 use Rattle.records.specs.declared.Node.{Node}
 use Rattle.records.specs.Records.{nodeOf, valueRecordOf}
-use Rattle.records.specs.Tests.{leafForm, innerForm, formOk, nodeOk, liveValue}
+use Rattle.inspection.specs.Tests.{leafForm, innerForm, formOk, nodeOk, liveValue}
 use Rattle.full_check.specs.Walk.{Walk, failed, visitOk, leafWalk, joined, walkOf}
 use Rattle.trees.specs.Lists.{all-append}
 use Rattle.trees.specs.Tree.{Tree, leaf, inner, top, keyOf, prefixOf, entries, Ordered}

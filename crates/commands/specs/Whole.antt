@@ -11,9 +11,9 @@ use Rattle.keys.specs.Number.{numberOf}
 use Rattle.node_allocator.specs.Layout.{headerAt, recordAt, capacityOf, widthOf}
 use Rattle.node_allocator.specs.Steps.{countsOf, getRegister, setRegister, connected, disconnected, neverUsed, freshTaken, freedTaken, unlinked, addIndex, addImage, removeImage}
 use Rattle.records.specs.Numbers.{refusalNumber}
-use Rattle.records.specs.Opening.{openOf}
+use Rattle.inspection.specs.Opening.{openOf}
 use Rattle.records.specs.Records.{headerOf, nodeOf, recordFrom}
-use Rattle.records.specs.Tests.{arenaOk, countsOk, headerOk, formOk, nodeOk, kidsOk, freeNode, freeValue}
+use Rattle.inspection.specs.Tests.{arenaOk, countsOk, headerOk, formOk, nodeOk, kidsOk, freeNode, freeValue}
 use Rattle.records.specs.Writes.{setContent, setValue}
 use Rattle.descent.specs.Descent.{childOf, lookupTurn, reachTurn, stepOf, descend, fromRoot}
 use Rattle.lookup.specs.Get.{leafTarget, stopTarget, openedTarget, targetOf}

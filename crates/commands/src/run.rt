@@ -22,7 +22,7 @@ ghost use Prim.Native.Nat.{_+_, _≤_};
 ghost use lib.ListN.{length};
 ghost use Rattle.records.specs.Layout.{imageOf};
 ghost use Rattle.records.specs.Numbers.{placeNumber, gotNumber, doneNumber};
-ghost use Rattle.records.specs.Outcome.{Leaves};
+ghost use Rattle.inspection.specs.Outcome.{Leaves};
 ghost use Rattle.lookup.specs.Get.{getOf, writeOf, writeImage};
 ghost use Rattle.insert.specs.Steps.{insertOf, insertImage};
 ghost use Rattle.remove.specs.Steps.{removeOf, removedImage};

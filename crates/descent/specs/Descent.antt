@@ -11,7 +11,7 @@ use Rattle.records.specs.declared.Header.{Header}
 use Rattle.records.specs.declared.Node.{Node}
 use Rattle.records.specs.declared.NodeIndex.{NodeIndex}
 use Rattle.records.specs.Records.{nodeOf}
-use Rattle.records.specs.Tests.{nodeOk}
+use Rattle.inspection.specs.Tests.{nodeOk}
 use Rattle.descent.specs.declared.Stop.{Stop}
 use Rattle.descent.specs.declared.Stop.the-variants.{Leaf, Parted, Damaged}
 use Rattle.descent.specs.declared.Step.{Step}

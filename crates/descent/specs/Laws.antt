@@ -16,7 +16,7 @@ use Rattle.records.specs.declared.Header.{Header}
 use Rattle.records.specs.declared.Node.{Node}
 use Rattle.records.specs.declared.NodeIndex.{NodeIndex}
 use Rattle.records.specs.Records.{nodeOf}
-use Rattle.records.specs.Tests.{usedNode, leafForm, innerForm, formOk, nodeOk}
+use Rattle.inspection.specs.Tests.{usedNode, leafForm, innerForm, formOk, nodeOk}
 use Rattle.descent.specs.declared.Stop.{Stop}
 use Rattle.descent.specs.declared.Stop.the-variants.{Damaged}
 use Rattle.descent.specs.declared.Step.{Step}

@@ -1,6 +1,7 @@
 // The descents from the root: by a key whose prefixes are compared, as lookup and insert go; and by a key's bits alone, as remove goes, and as the
 // smallest and the largest entry are reached by the bits of the smallest and the largest key. Each visited node is tested before it is relied on, and each descent is a loop
 // left by break with the node and the reason it stopped.
+use inspection::tests::is_used;
 use keys::Key;
 use keys::bit;
 use keys::leading_equal;
@@ -11,12 +12,11 @@ use records::NodeIndex;
 use records::ValueIndex;
 use records::read::key_of;
 use records::read::node_in;
-use records::tests::is_used;
 ghost use mathlib.Core.Path.{_≡_};
 ghost use Prim.Native.Nat.{_+_, _*_, _≤_};
 ghost use lib.ListN.{length};
 ghost use Rattle.words.specs.Words.{words};
-ghost use Rattle.records.specs.Room.{Room};
+ghost use Rattle.inspection.specs.Room.{Room};
 ghost use Rattle.descent.specs.Bits.{bitsTurn, allBits};
 ghost use Rattle.descent.specs.ByKind.{isJoined, isForked, innerOk, leafOk, innerStep, leafStep};
 ghost use Rattle.descent.specs.Descent.{childOf, lookupTurn, stepOf, descend, findOf, reachOf, endOf};

@@ -14,7 +14,7 @@ use Rattle.records.specs.declared.Header.{Header}
 use Rattle.records.specs.declared.NodeIndex.{NodeIndex}
 use Rattle.records.specs.declared.Node.{Node}
 use Rattle.records.specs.declared.Value.{Value}
-use Rattle.records.specs.declared.Opened.the-variants.{Good, Shut}
+use Rattle.inspection.specs.declared.Opened.the-variants.{Good, Shut}
 use Rattle.records.specs.declared.Refusal.the-variants as no
 use Rattle.records.specs.declared.Done.{Done}
 use Rattle.records.specs.declared.Done.the-variants as done
@@ -26,8 +26,8 @@ use Rattle.records.specs.declared.Entry.{Entry}
 use Rattle.records.specs.declared.Entry.the-variants as entry
 use Rattle.records.specs.declared.Count.the-variants as count
 use Rattle.records.specs.Records.{headerOf, nodeOf, valueRecordOf}
-use Rattle.records.specs.Tests.{liveValue}
-use Rattle.records.specs.Opening.{openOf}
+use Rattle.inspection.specs.Tests.{liveValue}
+use Rattle.inspection.specs.Opening.{openOf}
 use Rattle.descent.specs.declared.Stop.{Stop}
 use Rattle.descent.specs.declared.Stop.the-variants as stop
 use Rattle.descent.specs.declared.Step.{Step}

@@ -16,7 +16,7 @@ use Rattle.records.specs.declared.Node.{Node}
 use Rattle.records.specs.declared.NodeIndex.{NodeIndex}
 use Rattle.records.specs.declared.ValueIndex.{ValueIndex}
 use Rattle.records.specs.Records.{nodeOf}
-use Rattle.records.specs.Tests.{nodeOk}
+use Rattle.inspection.specs.Tests.{nodeOk}
 use Rattle.descent.specs.declared.Stop.{Stop}
 use Rattle.descent.specs.declared.Stop.the-variants as stop
 use Rattle.descent.specs.declared.Step.the-variants.{Down, Halt}

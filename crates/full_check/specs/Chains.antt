@@ -11,7 +11,7 @@ use Rattle.node_allocator.specs.declared.Counts.{Counts}
 use Rattle.node_allocator.specs.Layout.{nodeAt, valueAt}
 use Rattle.records.specs.declared.Header.{Header}
 use Rattle.records.specs.Records.{nodeOf, valueRecordOf}
-use Rattle.records.specs.Tests.{freeNode, freeValue}
+use Rattle.inspection.specs.Tests.{freeNode, freeValue}
 
 -- from i through so many free records to the bump
 unfoldable pub chainOf : (ℕ → Bool) → (ℕ → ℕ) → ℕ → ℕ → ℕ → Bool

@@ -6,13 +6,13 @@ use Prim.Native.Nat.{ℕ}
 use lib.ListN.{length, replicate, drop}
 use lib.Dec.{eqb, leb}
 use Rattle.records.specs.declared.Header.{Header}
-use Rattle.records.specs.declared.Opened.{Opened}
-use Rattle.records.specs.declared.Opened.the-variants.{Good, Shut}
+use Rattle.inspection.specs.declared.Opened.{Opened}
+use Rattle.inspection.specs.declared.Opened.the-variants.{Good, Shut}
 use Rattle.records.specs.declared.Refusal.the-variants as no
 use Rattle.records.specs.declared.Done.{Done}
 use Rattle.records.specs.declared.Done.the-variants as done
-use Rattle.records.specs.Tests.{shapeOk}
-use Rattle.records.specs.Opening.{openOf}
+use Rattle.inspection.specs.Tests.{shapeOk}
+use Rattle.inspection.specs.Opening.{openOf}
 use Rattle.records.specs.Numbers.{zeroKey}
 use Rattle.full_check.specs.Walk.{Walk, walkOf}
 use Rattle.full_check.specs.Chains.{nodeChain, valueChain, nodesUnused, valuesUnused}

@@ -9,8 +9,8 @@ use Rattle.words.specs.Zeros.{zerosAt}
 use Rattle.keys.specs.Number.{numberOf}
 use Rattle.keys.specs.Common.{commonOf, common, bitOf}
 use Rattle.records.specs.Records.{headerOf, nodeOf, recordFrom}
-use Rattle.records.specs.Tests.{arenaOk, countsOk, headerOk, formOk, nodeOk, freeNode, freeValue}
-use Rattle.records.specs.Opening.{openOf}
+use Rattle.inspection.specs.Tests.{arenaOk, countsOk, headerOk, formOk, nodeOk, freeNode, freeValue}
+use Rattle.inspection.specs.Opening.{openOf}
 use Rattle.records.specs.Numbers.{doneNumber, refusalNumber}
 use Rattle.full_check.specs.Walk.{sideOk, visitOk, leafWalk, joined, walkOf}
 use Rattle.full_check.specs.Chains.{chainOf, nodeChain, valueChain, nodesUnused, valuesUnused}

@@ -13,8 +13,8 @@ use Rattle.words.specs.Words.{words, Bytes}
 use Rattle.records.specs.declared.Refusal.the-variants as no
 use Rattle.records.specs.declared.Done.the-variants as done
 use Rattle.records.specs.Records.{headerOf}
-use Rattle.records.specs.Tests.{shapeOk, headerOk}
-use Rattle.records.specs.Opening.{openOf}
+use Rattle.inspection.specs.Tests.{shapeOk, headerOk}
+use Rattle.inspection.specs.Opening.{openOf}
 use Rattle.records.specs.Numbers.{refusalNumber, doneNumber}
 use Rattle.full_check.specs.Check.{unmarked, recordsOk, openedCheck, checkShape, checkOf, checkScratch}
 use Rattle.full_check.specs.Scratch.{ScratchLeft, left-cleared, one-scratch}

@@ -12,7 +12,7 @@ use Rattle.keys.specs.Common.{common, bitOf}
 use Rattle.records.specs.declared.Header.{Header}
 use Rattle.records.specs.declared.Node.{Node}
 use Rattle.records.specs.Records.{nodeOf, valueRecordOf}
-use Rattle.records.specs.Tests.{nodeOk, liveValue}
+use Rattle.inspection.specs.Tests.{nodeOk, liveValue}
 
 -- what a walk comes to: whether it passed, how many of the nodes that node size counts it left for the others to reach, and the marks it left
 pub record Walk : Type 0 where

@@ -11,7 +11,7 @@ use Rattle.keys.specs.declared.Key.{Key}
 use Rattle.records.specs.declared.Header.{Header}
 use Rattle.records.specs.declared.Node.{Node}
 use Rattle.records.specs.Records.{nodeOf}
-use Rattle.records.specs.Tests.{usedNode, formOk, nodeOk}
+use Rattle.inspection.specs.Tests.{usedNode, formOk, nodeOk}
 use Rattle.descent.specs.Laws.{Passed, passed}
 use Rattle.full_check.specs.declared.walk.Walked.{Walked}
 use Rattle.full_check.specs.Walk.{Walk, failed, visitOk, leafWalk, joined, walkOf}

@@ -1,4 +1,7 @@
 // The free chains, from each arena's head to its bump, and the records that were never used.
+use inspection::tests::free_node;
+use inspection::tests::free_value;
+use inspection::tests::is_used;
 use node_allocator::Arena;
 use node_allocator::Counts;
 use node_allocator::capacity;
@@ -9,16 +12,13 @@ use records::NodeIndex;
 use records::ValueIndex;
 use records::read::node_in;
 use records::read::value_record;
-use records::tests::free_node;
-use records::tests::free_value;
-use records::tests::is_used;
 ghost use mathlib.Core.Path.{_≡_};
 ghost use Prim.Native.Nat.{_+_, _-_, _*_};
 ghost use lib.ListN.{length};
 ghost use Rattle.words.specs.Words.{words};
 ghost use Rattle.words.specs.Zeros.{zerosAt};
 ghost use Rattle.node_allocator.specs.Layout.{recordAt, capacityOf, widthOf};
-ghost use Rattle.records.specs.Room.{Room};
+ghost use Rattle.inspection.specs.Room.{Room};
 ghost use Rattle.full_check.specs.Chains.{freeCount, nodeChain, valueChain};
 
 // The difference, and 0 where b is the larger.

@@ -8,21 +8,21 @@ mod walk; // walk.rt: the tree
 use chains::node_chain;
 use chains::unused;
 use chains::value_chain;
+use inspection::Opened;
+use inspection::open::is_image;
+use inspection::open::open_image;
 use node_allocator::Arena;
 use records::Done;
 use records::Header;
-use records::Opened;
 use records::Refusal;
-use records::open::is_image;
-use records::open::open_image;
 use walk::tree_ok;
 ghost use mathlib.Core.Path.{_≡_};
 ghost use lib.ListN.{length};
 ghost use Rattle.words.specs.Words.{words};
 ghost use Rattle.records.specs.Layout.{imageOf};
 ghost use Rattle.records.specs.Numbers.{doneNumber};
-ghost use Rattle.records.specs.Opening.{openOf};
-ghost use Rattle.records.specs.Room.{Room};
+ghost use Rattle.inspection.specs.Opening.{openOf};
+ghost use Rattle.inspection.specs.Room.{Room};
 ghost use Rattle.full_check.specs.Check.{unmarked, recordsOk, openedCheck, checkOf, checkScratch};
 ghost use Rattle.full_check.specs.Scratch.{ScratchLeft};
 

@@ -1,5 +1,8 @@
 // The walk over the tree: from the root to the left child, then to the right one, each node tested before it is relied on. The value
 // records that leaves name are marked, so that one named twice is found.
+use inspection::tests::is_used;
+use inspection::tests::live_value;
+use inspection::tests::node_ok;
 use keys::Key;
 use keys::bit;
 use keys::leading_equal;
@@ -8,14 +11,11 @@ use records::Node;
 use records::NodeIndex;
 use records::read::node_in;
 use records::read::value_record;
-use records::tests::is_used;
-use records::tests::live_value;
-use records::tests::node_ok;
 ghost use mathlib.Core.Path.{_≡_};
 ghost use Prim.Native.Nat.{_+_, _≤_};
 ghost use lib.ListN.{length};
 ghost use Rattle.words.specs.Words.{words};
-ghost use Rattle.records.specs.Room.{Room};
+ghost use Rattle.inspection.specs.Room.{Room};
 ghost use Rattle.full_check.specs.Walk.{sideOk, visitOk, leafWalk};
 ghost use Rattle.full_check.specs.Walked.{walked, WalksTo};
 ghost use Rattle.full_check.specs.Check.{treeOk};

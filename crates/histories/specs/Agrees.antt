@@ -17,7 +17,7 @@ use Rattle.records.specs.declared.Place.{Place}
 use Rattle.records.specs.declared.Place.the-variants as place
 use Rattle.records.specs.declared.Entry.{Entry}
 use Rattle.records.specs.declared.Count.{Count}
-use Rattle.records.specs.Room.{Shaped}
+use Rattle.inspection.specs.Room.{Shaped}
 use Rattle.lookup.specs.Start.{startImage}
 use Rattle.lookup.specs.Get.{writeImage}
 use Rattle.insert.specs.Steps.{insertImage}

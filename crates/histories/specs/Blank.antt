@@ -8,16 +8,16 @@ use lib.ListN.{length, getD}
 use lib.Dec.{leb}
 use Rattle.words.specs.Zeros.{zerosAt, zeros-exact}
 use Rattle.keys.specs.declared.Key.{Key}
-use Rattle.records.specs.declared.Opened.the-variants.{Shut}
+use Rattle.inspection.specs.declared.Opened.the-variants.{Shut}
 use Rattle.records.specs.declared.Value.{Value}
 use Rattle.records.specs.declared.Refusal.the-variants as no
 use Rattle.records.specs.declared.Done.the-variants as done
 use Rattle.records.specs.declared.Got.the-variants as got
 use Rattle.records.specs.declared.Place.the-variants as place
 use Rattle.records.specs.Records.{headerOf}
-use Rattle.records.specs.Room.{Shaped}
-use Rattle.records.specs.Opening.{openOf}
-use Rattle.records.specs.Answers.{Opens, misshapen, unsound, sound, opens}
+use Rattle.inspection.specs.Room.{Shaped}
+use Rattle.inspection.specs.Opening.{openOf}
+use Rattle.inspection.specs.Answers.{Opens, misshapen, unsound, sound, opens}
 use Rattle.lookup.specs.Start.{startOf, doneImage, startImage, lengthOf, openedLength, capacityOf, openedCapacity}
 use Rattle.lookup.specs.Get.{targetOf, openedTarget, targetGot, getOf, targetDone, writeOf, targetImage, writeImage, openedDone, containsOf, openedPlace, addrOf}
 use Rattle.lookup.specs.Ends.{openedEntry, endEntry}

@@ -15,7 +15,7 @@ use Rattle.records.specs.declared.Refusal.the-variants as no
 use Rattle.records.specs.declared.Done.the-variants as done
 use Rattle.records.specs.declared.Place.the-variants as place
 use Rattle.records.specs.Records.{headerOf, nodeOf}
-use Rattle.records.specs.Room.{Shaped}
+use Rattle.inspection.specs.Room.{Shaped}
 use Rattle.lookup.specs.Get.{addrOf}
 use Rattle.lookup.specs.Promises.{start-kept, set-kept}
 use Rattle.insert.specs.Steps.{insertOf, insertImage}

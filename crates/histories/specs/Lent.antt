@@ -10,7 +10,7 @@ use borrow.Author.Tests.{leb-true, leb-false}
 use Rattle.words.specs.Words.{words, words-at, words-past, Bytes}
 use Rattle.records.specs.declared.Done.the-variants as done
 use Rattle.records.specs.Layout as layout
-use Rattle.records.specs.Room.{Shaped}
+use Rattle.inspection.specs.Room.{Shaped}
 use Rattle.full_check.specs.Check.{checkOf}
 use Rattle.trees.specs.Tree.{Rising}
 use Rattle.views.specs.Small.{Small}

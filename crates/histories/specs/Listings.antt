@@ -13,7 +13,7 @@ use Rattle.records.specs.declared.Refusal.the-variants as no
 use Rattle.records.specs.declared.Done.{Done}
 use Rattle.records.specs.declared.Done.the-variants as done
 use Rattle.records.specs.declared.Entry.{Entry}
-use Rattle.records.specs.Room.{Shaped}
+use Rattle.inspection.specs.Room.{Shaped}
 use Rattle.records.specs.Numbers.{refusalNumber, gotNumber}
 use Rattle.listing.specs.declared.Position.{Position}
 use Rattle.listing.specs.Position.{openedMade, madeOf}

@@ -5,13 +5,13 @@ use mathlib.Core.Bool.{Bool, true, false}
 use Prim.Native.Nat.{ℕ}
 use lib.ListN.{length}
 use denote.Ref.{RefT, now}
-use Rattle.records.specs.declared.Opened.{Opened}
-use Rattle.records.specs.declared.Opened.the-variants.{Good, Shut}
+use Rattle.inspection.specs.declared.Opened.{Opened}
+use Rattle.inspection.specs.declared.Opened.the-variants.{Good, Shut}
 use Rattle.records.specs.declared.Refusal.{Refusal}
 use Rattle.records.specs.declared.Refusal.the-variants as no
 use Rattle.records.specs.Layout.{imageOf}
-use Rattle.records.specs.Opening.{openOf}
-use Rattle.records.specs.Tests.{shapeOk}
+use Rattle.inspection.specs.Opening.{openOf}
+use Rattle.inspection.specs.Tests.{shapeOk}
 use Rattle.listing.specs.Position.{openedMade, madeOf}
 use Rattle.listing.specs.Step.{openedStep, refusedStep, stepOf}
 use Rattle.holding.specs.Held.{begun, heldStep, movedOn}

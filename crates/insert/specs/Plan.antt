@@ -9,7 +9,7 @@ use Rattle.node_allocator.specs.declared.Arena.the-variants.{Nodes, Values}
 use Rattle.records.specs.declared.Header.{Header}
 use Rattle.records.specs.declared.Refusal.the-variants as no
 use Rattle.records.specs.Records.{nodeOf, valueRecordOf}
-use Rattle.records.specs.Tests.{kidsOk, liveValue, freeNode, freeValue}
+use Rattle.inspection.specs.Tests.{kidsOk, liveValue, freeNode, freeValue}
 use Rattle.descent.specs.declared.Stop.{Stop}
 use Rattle.descent.specs.declared.Stop.the-variants as stop
 use Rattle.descent.specs.Descent.{findOf}

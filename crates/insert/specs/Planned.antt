@@ -10,9 +10,9 @@ use Rattle.records.specs.declared.Refusal.{Refusal}
 use Rattle.records.specs.declared.Place.the-variants as place
 use Rattle.records.specs.Layout.{imageOf}
 use Rattle.records.specs.Numbers.{placeNumber}
-use Rattle.records.specs.Opening.{openOf}
-use Rattle.records.specs.Outcome.{Leaves, wrote, left-alone}
-use Rattle.records.specs.Room.{opened-words, opened-whole}
+use Rattle.inspection.specs.Opening.{openOf}
+use Rattle.inspection.specs.Outcome.{Leaves, wrote, left-alone}
+use Rattle.inspection.specs.Room.{opened-words, opened-whole}
 use Rattle.insert.specs.declared.Plan.{Plan}
 use Rattle.insert.specs.declared.Plan.the-variants.{First, Replace, Split, Refused}
 use Rattle.insert.specs.Steps.{planPlace, planImage, openedPlan, insertOf, insertImage}

@@ -14,19 +14,19 @@ use Rattle.words.specs.Words.{Bytes}
 use Rattle.keys.specs.declared.Key.{Key}
 use Rattle.records.specs.declared.Header.{Header}
 use Rattle.records.specs.declared.Value.{Value}
-use Rattle.records.specs.declared.Opened.{Opened}
-use Rattle.records.specs.declared.Opened.the-variants.{Good, Shut}
+use Rattle.inspection.specs.declared.Opened.{Opened}
+use Rattle.inspection.specs.declared.Opened.the-variants.{Good, Shut}
 use Rattle.records.specs.declared.Place.{Place}
 use Rattle.records.specs.declared.Place.the-variants as place
 use Rattle.records.specs.declared.Refusal.the-variants as no
 use Rattle.records.specs.Layout.{imageOf}
 use Rattle.records.specs.Records.{headerOf, nodeOf, valueRecordOf}
-use Rattle.records.specs.Tests.{shapeOk, headerOk, kidsOk, liveValue}
+use Rattle.inspection.specs.Tests.{shapeOk, headerOk, kidsOk, liveValue}
 use Rattle.records.specs.Numbers.{refusalNumber, placeNumber, placeIndex}
-use Rattle.records.specs.Opening.{openOf}
-use Rattle.records.specs.Answers.{Opens, misshapen, unsound, sound, opens}
-use Rattle.records.specs.Outcome.{Leaves, one-outcome}
-use Rattle.records.specs.Room.{open-shaped, opened-whole}
+use Rattle.inspection.specs.Opening.{openOf}
+use Rattle.inspection.specs.Answers.{Opens, misshapen, unsound, sound, opens}
+use Rattle.inspection.specs.Outcome.{Leaves, one-outcome}
+use Rattle.inspection.specs.Room.{open-shaped, opened-whole}
 use Rattle.descent.specs.declared.Stop.{Stop}
 use Rattle.descent.specs.declared.Stop.the-variants as stop
 use Rattle.descent.specs.Descent.{findOf}

@@ -14,15 +14,15 @@ use Rattle.keys.specs.Common.{common}
 use Rattle.records.specs.declared.Header.{Header}
 use Rattle.records.specs.declared.NodeIndex.{NodeIndex}
 use Rattle.records.specs.declared.ValueIndex.{ValueIndex}
-use Rattle.records.specs.declared.Opened.{Opened}
-use Rattle.records.specs.declared.Opened.the-variants.{Good, Shut}
+use Rattle.inspection.specs.declared.Opened.{Opened}
+use Rattle.inspection.specs.declared.Opened.the-variants.{Good, Shut}
 use Rattle.records.specs.declared.Refusal.{Refusal}
 use Rattle.records.specs.declared.Refusal.the-variants as no
 use Rattle.records.specs.Layout.{mostNodes}
 use Rattle.records.specs.Records.{nodeOf, valueRecordOf}
-use Rattle.records.specs.Tests.{arenaOk, headerOk, usedNode, formOk, nodeOk, kidsOk, liveValue, freeNode}
-use Rattle.records.specs.Opening.{openOf}
-use Rattle.records.specs.Room.{Room, room, node-bump, open-shaped, open-passed, used-within}
+use Rattle.inspection.specs.Tests.{arenaOk, headerOk, usedNode, formOk, nodeOk, kidsOk, liveValue, freeNode}
+use Rattle.inspection.specs.Opening.{openOf}
+use Rattle.inspection.specs.Room.{Room, room, node-bump, open-shaped, open-passed, used-within}
 use Rattle.descent.specs.declared.Stop.{Stop}
 use Rattle.descent.specs.declared.Stop.the-variants as stop
 use Rattle.descent.specs.declared.Step.{Step}

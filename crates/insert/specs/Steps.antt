@@ -11,12 +11,12 @@ use Rattle.node_allocator.specs.declared.Field.the-variants as field
 use Rattle.node_allocator.specs.Steps.{setRegister, clearRegister, connected, addIndex, addImage}
 use Rattle.records.specs.declared.Value.{Value}
 use Rattle.records.specs.declared.Content.{Content}
-use Rattle.records.specs.declared.Opened.{Opened}
-use Rattle.records.specs.declared.Opened.the-variants.{Good, Shut}
+use Rattle.inspection.specs.declared.Opened.{Opened}
+use Rattle.inspection.specs.declared.Opened.the-variants.{Good, Shut}
 use Rattle.records.specs.declared.Place.{Place}
 use Rattle.records.specs.declared.Place.the-variants as place
 use Rattle.records.specs.Records.{nodeOf, contentOf}
-use Rattle.records.specs.Opening.{openOf}
+use Rattle.inspection.specs.Opening.{openOf}
 use Rattle.records.specs.Writes.{setContent, setValue}
 use Rattle.insert.specs.declared.Plan.{Plan}
 use Rattle.insert.specs.declared.Plan.the-variants.{First, Replace, Split, Refused}

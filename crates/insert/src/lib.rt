@@ -15,7 +15,7 @@ use records::write::set_value;
 ghost use mathlib.Core.Path.{_≡_};
 ghost use Rattle.records.specs.Layout.{imageOf};
 ghost use Rattle.records.specs.Numbers.{placeNumber};
-ghost use Rattle.records.specs.Outcome.{Leaves};
+ghost use Rattle.inspection.specs.Outcome.{Leaves};
 ghost use Rattle.insert.specs.Steps.{insertOf, insertImage};
 
 // What insert is going to do, found out before any write.

@@ -14,7 +14,7 @@ use Rattle.records.specs.declared.Node.{Node}
 use Rattle.records.specs.declared.NodeIndex.{NodeIndex}
 use Rattle.records.specs.declared.ValueIndex.{ValueIndex}
 use Rattle.records.specs.Records.{nodeOf}
-use Rattle.records.specs.Tests.{usedNode, leafForm, innerForm, formOk, nodeOk, kidsOk}
+use Rattle.inspection.specs.Tests.{usedNode, leafForm, innerForm, formOk, nodeOk, kidsOk}
 use Rattle.listing.specs.declared.Stack.{Stack}
 use Rattle.listing.specs.declared.Reached.{Reached}
 use Rattle.listing.specs.declared.Given.{Given}

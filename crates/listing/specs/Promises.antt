@@ -13,15 +13,15 @@ use Rattle.records.specs.declared.Refusal.{Refusal}
 use Rattle.records.specs.declared.Refusal.the-variants as no
 use Rattle.records.specs.declared.Entry.{Entry}
 use Rattle.records.specs.declared.Entry.the-variants as entry
-use Rattle.records.specs.declared.Opened.{Opened}
-use Rattle.records.specs.declared.Opened.the-variants.{Good, Shut}
+use Rattle.inspection.specs.declared.Opened.{Opened}
+use Rattle.inspection.specs.declared.Opened.the-variants.{Good, Shut}
 use Rattle.records.specs.declared.Done.the-variants as done
 use Rattle.records.specs.Records.{headerOf, nodeOf, valueRecordOf}
-use Rattle.records.specs.Tests.{shapeOk, headerOk, liveValue}
-use Rattle.records.specs.Opening.{openOf}
+use Rattle.inspection.specs.Tests.{shapeOk, headerOk, liveValue}
+use Rattle.inspection.specs.Opening.{openOf}
 use Rattle.records.specs.Numbers.{refusalNumber, doneNumber, entryNumber, entryKey, entryValue, zeroKey, zeroValue}
-use Rattle.records.specs.Room.{open-header}
-use Rattle.records.specs.Answers.{Opens, misshapen, unsound, sound, opens}
+use Rattle.inspection.specs.Room.{open-header}
+use Rattle.inspection.specs.Answers.{Opens, misshapen, unsound, sound, opens}
 use Rattle.listing.specs.declared.Stack.{Stack}
 use Rattle.listing.specs.declared.Position.{Position}
 use Rattle.listing.specs.declared.Made.{Made}

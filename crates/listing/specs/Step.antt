@@ -9,15 +9,15 @@ use Rattle.records.specs.declared.Header.{Header}
 use Rattle.records.specs.declared.Node.{Node}
 use Rattle.records.specs.declared.NodeIndex.{NodeIndex}
 use Rattle.records.specs.declared.ValueIndex.{ValueIndex}
-use Rattle.records.specs.declared.Opened.{Opened}
-use Rattle.records.specs.declared.Opened.the-variants.{Good, Shut}
+use Rattle.inspection.specs.declared.Opened.{Opened}
+use Rattle.inspection.specs.declared.Opened.the-variants.{Good, Shut}
 use Rattle.records.specs.declared.Refusal.{Refusal}
 use Rattle.records.specs.declared.Refusal.the-variants as no
 use Rattle.records.specs.declared.Entry.{Entry}
 use Rattle.records.specs.declared.Entry.the-variants as entry
 use Rattle.records.specs.Records.{nodeOf, valueRecordOf}
-use Rattle.records.specs.Tests.{shapeOk, formOk, kidsOk, liveValue}
-use Rattle.records.specs.Opening.{openOf}
+use Rattle.inspection.specs.Tests.{shapeOk, formOk, kidsOk, liveValue}
+use Rattle.inspection.specs.Opening.{openOf}
 use Rattle.listing.specs.declared.Stack.{Stack}
 use Rattle.listing.specs.declared.Reached.{Reached}
 use Rattle.listing.specs.declared.Moved.{Moved}

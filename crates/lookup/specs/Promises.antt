@@ -15,8 +15,8 @@ use Rattle.records.specs.declared.NodeIndex.{NodeIndex}
 use Rattle.records.specs.declared.ValueIndex.{ValueIndex}
 use Rattle.records.specs.declared.Refusal.{Refusal}
 use Rattle.records.specs.declared.Refusal.the-variants as no
-use Rattle.records.specs.declared.Opened.{Opened}
-use Rattle.records.specs.declared.Opened.the-variants.{Good, Shut}
+use Rattle.inspection.specs.declared.Opened.{Opened}
+use Rattle.inspection.specs.declared.Opened.the-variants.{Good, Shut}
 use Rattle.records.specs.declared.Done.{Done}
 use Rattle.records.specs.declared.Done.the-variants as done
 use Rattle.records.specs.declared.Got.{Got}
@@ -29,12 +29,12 @@ use Rattle.records.specs.declared.Count.{Count}
 use Rattle.records.specs.declared.Count.the-variants as count
 use Rattle.records.specs.Layout.{imageOf}
 use Rattle.records.specs.Records.{headerOf, valueRecordOf}
-use Rattle.records.specs.Tests.{shapeOk, headerOk, liveValue}
-use Rattle.records.specs.Opening.{openOf}
+use Rattle.inspection.specs.Tests.{shapeOk, headerOk, liveValue}
+use Rattle.inspection.specs.Opening.{openOf}
 use Rattle.records.specs.Numbers.{refusalNumber, doneNumber, gotNumber, placeNumber, entryNumber, countNumber, doneFlag, gotValue, placeIndex, entryKey, entryValue, countIs, zeroValue, zeroKey}
-use Rattle.records.specs.Room.{opened-whole, shaped-whole}
-use Rattle.records.specs.Outcome.{Leaves, one-outcome}
-use Rattle.records.specs.Answers.{Opens, misshapen, unsound, sound, opens, shape-exactly, damage-exactly, other-exactly}
+use Rattle.inspection.specs.Room.{opened-whole, shaped-whole}
+use Rattle.inspection.specs.Outcome.{Leaves, one-outcome}
+use Rattle.inspection.specs.Answers.{Opens, misshapen, unsound, sound, opens, shape-exactly, damage-exactly, other-exactly}
 use Rattle.descent.specs.declared.Stop.{Stop}
 use Rattle.descent.specs.declared.Stop.the-variants as stop
 use Rattle.descent.specs.Descent.{findOf, endOf}

@@ -7,15 +7,15 @@ use native.Mathlib.Omega.{arith}
 use lib.ListN.{length, set}
 use Rattle.words.specs.Zeros.{zerosAt}
 use Rattle.node_allocator.specs.Layout.{valuesAt}
-use Rattle.records.specs.declared.Opened.{Opened}
-use Rattle.records.specs.declared.Opened.the-variants.{Good, Shut}
+use Rattle.inspection.specs.declared.Opened.{Opened}
+use Rattle.inspection.specs.declared.Opened.the-variants.{Good, Shut}
 use Rattle.records.specs.declared.Refusal.the-variants as no
 use Rattle.records.specs.declared.Done.{Done}
 use Rattle.records.specs.declared.Done.the-variants as done
 use Rattle.records.specs.declared.Count.{Count}
 use Rattle.records.specs.declared.Count.the-variants as count
-use Rattle.records.specs.Tests.{shapeOk}
-use Rattle.records.specs.Opening.{openOf}
+use Rattle.inspection.specs.Tests.{shapeOk}
+use Rattle.inspection.specs.Opening.{openOf}
 
 -- bumps and heads are 1
 unfoldable pub started : ℕ → List ℕ → List ℕ

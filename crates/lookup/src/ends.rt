@@ -2,9 +2,9 @@
 use crate::Target;
 use crate::get::stop_target;
 use descent::find_end;
+use inspection::Opened;
+use inspection::open::open_image;
 use records::Entry;
-use records::Opened;
-use records::open::open_image;
 use records::read::key_of;
 ghost use mathlib.Core.Path.{_≡_};
 ghost use Rattle.records.specs.Layout.{imageOf};

@@ -2,24 +2,24 @@
 use crate::Target;
 use descent::Stop;
 use descent::find;
+use inspection::Opened;
+use inspection::open::open_image;
+use inspection::tests::live_value;
 use keys::Key;
 use records::Done;
 use records::Got;
 use records::NodeIndex;
-use records::Opened;
 use records::Place;
 use records::Refusal;
 use records::Value;
 use records::ValueIndex;
-use records::open::open_image;
 use records::read::value_record;
-use records::tests::live_value;
 use records::write::set_value;
 ghost use mathlib.Core.Path.{_≡_};
 ghost use Rattle.words.specs.Words.{words};
 ghost use Rattle.records.specs.Layout.{imageOf};
 ghost use Rattle.records.specs.Numbers.{doneNumber};
-ghost use Rattle.records.specs.Outcome.{Leaves};
+ghost use Rattle.inspection.specs.Outcome.{Leaves};
 ghost use Rattle.lookup.specs.Get.{leafTarget, stopTarget, targetOf, getOf, stopDone, containsOf, stopPlace, addrOf, writeOf, writeImage};
 
 // The value record that a leaf names, tested before its value is read or written.

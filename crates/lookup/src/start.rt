@@ -1,16 +1,16 @@
 // Start, and what the header alone tells.
+use inspection::Opened;
+use inspection::open::is_image;
+use inspection::open::open_image;
 use records::Count;
 use records::Done;
-use records::Opened;
 use records::Refusal;
-use records::open::is_image;
-use records::open::open_image;
 ghost use mathlib.Core.Path.{_≡_};
 ghost use lib.ListN.{length};
 ghost use Rattle.words.specs.Words.{words};
 ghost use Rattle.records.specs.Layout.{imageOf};
 ghost use Rattle.records.specs.Numbers.{doneNumber};
-ghost use Rattle.records.specs.Outcome.{Leaves};
+ghost use Rattle.inspection.specs.Outcome.{Leaves};
 ghost use Rattle.lookup.specs.Start.{started, startOf, startImage, lengthOf, capacityOf};
 
 fn store_counts(img: &mut [u8], n: u32)

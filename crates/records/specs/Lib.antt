@@ -1,10 +1,5 @@
 -- What the contracts of `records` cite: document 01's image, its records, their tests and the numbers of its refusals.
 pub mod Layout
 pub mod Records
-pub mod Tests
-pub mod Opening
-pub mod Room
-pub mod Outcome
 pub mod Writes
 pub mod Numbers
-pub mod Answers

@@ -1,9 +1,5 @@
-// The records of an image and their tests: what every call of the map reads, and what it tests before it relies on it.
-//
-// A reader gives a record as a whole; a test is a function of the records that it is about. Nothing here follows a link.
+// The records of an image, as every call of the map reads and writes them: each as a whole. Nothing here follows a link, and nothing is tested; that is `inspection`.
 pub mod read; // read.rt: the header, a node, a value record
-pub mod tests; // tests.rt: document 01's tests of a record
-pub mod open; // open.rt: shape and header, which every call tests first
 pub mod write; // write.rt: a node's content, a value, the root
 
 use keys::Key;
@@ -63,12 +59,6 @@ pub enum Refusal {
     Absent,
     NotBlank,
     Cursor,
-}
-
-// The header of an image that passes the shape's and the header's tests, or the refusal.
-pub enum Opened {
-    Good(Header),
-    Shut(Refusal),
 }
 
 // The answer of start, contains and the value write.

@@ -12,8 +12,8 @@ use Rattle.node_allocator.specs.Layout.{headerAt, recordAt, capacityOf}
 use Rattle.node_allocator.specs.Steps.{countsOf, getRegister, setRegister, connected, disconnected, removeImage}
 use Rattle.records.specs.declared.Got.the-variants as got
 use Rattle.records.specs.Records.{headerOf, nodeOf, recordFrom}
-use Rattle.records.specs.Tests.{arenaOk, countsOk, headerOk, formOk, nodeOk, kidsOk}
-use Rattle.records.specs.Opening.{openOf}
+use Rattle.inspection.specs.Tests.{arenaOk, countsOk, headerOk, formOk, nodeOk, kidsOk}
+use Rattle.inspection.specs.Opening.{openOf}
 use Rattle.records.specs.Numbers.{refusalNumber, gotNumber}
 use Rattle.records.specs.Writes.{setContent}
 use Rattle.descent.specs.Descent.{childOf, reachTurn, stepOf, descend, fromRoot}

@@ -8,7 +8,7 @@ use Rattle.records.specs.declared.Header.{Header}
 use Rattle.records.specs.declared.NodeIndex.{NodeIndex}
 use Rattle.records.specs.declared.Refusal.the-variants as no
 use Rattle.records.specs.Records.{nodeOf, valueRecordOf}
-use Rattle.records.specs.Tests.{nodeOk, kidsOk, liveValue}
+use Rattle.inspection.specs.Tests.{nodeOk, kidsOk, liveValue}
 use Rattle.descent.specs.declared.Stop.{Stop}
 use Rattle.descent.specs.declared.Stop.the-variants as stop
 use Rattle.descent.specs.Descent.{reachOf}

@@ -10,13 +10,13 @@ use Rattle.words.specs.Words.{words}
 use Rattle.keys.specs.declared.Key.{Key}
 use Rattle.records.specs.declared.Header.{Header}
 use Rattle.records.specs.declared.Refusal.{Refusal}
-use Rattle.records.specs.declared.Opened.{Opened}
-use Rattle.records.specs.declared.Opened.the-variants.{Good, Shut}
+use Rattle.inspection.specs.declared.Opened.{Opened}
+use Rattle.inspection.specs.declared.Opened.the-variants.{Good, Shut}
 use Rattle.records.specs.Layout.{imageOf}
 use Rattle.records.specs.Numbers.{gotNumber}
-use Rattle.records.specs.Opening.{openOf}
-use Rattle.records.specs.Outcome.{Leaves}
-use Rattle.records.specs.Room.{opened-words, opened-whole, whole-words}
+use Rattle.inspection.specs.Opening.{openOf}
+use Rattle.inspection.specs.Outcome.{Leaves}
+use Rattle.inspection.specs.Room.{opened-words, opened-whole, whole-words}
 use Rattle.remove.specs.declared.Plan.{Plan}
 use Rattle.remove.specs.declared.Plan.the-variants.{Lone, Cut, Refused}
 use Rattle.remove.specs.Steps.{planImage, valueGone, openedPlan, removeOf, removedImage}

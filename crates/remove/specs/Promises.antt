@@ -13,16 +13,16 @@ use Rattle.keys.specs.declared.Key.{Key}
 use Rattle.records.specs.declared.Header.{Header}
 use Rattle.records.specs.declared.NodeIndex.{NodeIndex}
 use Rattle.records.specs.declared.ValueIndex.{ValueIndex}
-use Rattle.records.specs.declared.Opened.the-variants.{Good}
+use Rattle.inspection.specs.declared.Opened.the-variants.{Good}
 use Rattle.records.specs.declared.Got.{Got}
 use Rattle.records.specs.declared.Got.the-variants as got
 use Rattle.records.specs.Layout.{imageOf}
 use Rattle.records.specs.Records.{headerOf, nodeOf, valueRecordOf}
-use Rattle.records.specs.Tests.{shapeOk, headerOk, liveValue}
+use Rattle.inspection.specs.Tests.{shapeOk, headerOk, liveValue}
 use Rattle.records.specs.Numbers.{refusalNumber, gotNumber, gotValue, zeroValue}
-use Rattle.records.specs.Opening.{openOf}
-use Rattle.records.specs.Outcome.{Leaves, one-outcome}
-use Rattle.records.specs.Room.{opened-whole}
+use Rattle.inspection.specs.Opening.{openOf}
+use Rattle.inspection.specs.Outcome.{Leaves, one-outcome}
+use Rattle.inspection.specs.Room.{opened-whole}
 use Rattle.descent.specs.declared.Stop.{Stop}
 use Rattle.descent.specs.declared.Stop.the-variants as stop
 use Rattle.descent.specs.Descent.{reachOf}

@@ -12,7 +12,7 @@ use remove_steps::remove_lone;
 ghost use mathlib.Core.Path.{_≡_};
 ghost use Rattle.records.specs.Layout.{imageOf};
 ghost use Rattle.records.specs.Numbers.{gotNumber};
-ghost use Rattle.records.specs.Outcome.{Leaves};
+ghost use Rattle.inspection.specs.Outcome.{Leaves};
 ghost use Rattle.remove.specs.Steps.{removeOf, removedImage};
 
 // What remove is going to do, found out before any write.

@@ -14,8 +14,8 @@ use Rattle.words.specs.Zeros.{zerosAt, zeros-exact}
 use Rattle.records.specs.declared.Header.{Header}
 use Rattle.records.specs.declared.Done.the-variants as done
 use Rattle.records.specs.Records.{headerOf}
-use Rattle.records.specs.Tests.{shapeOk}
-use Rattle.records.specs.Room.{Shaped}
+use Rattle.inspection.specs.Tests.{shapeOk}
+use Rattle.inspection.specs.Room.{Shaped}
 use Rattle.lookup.specs.Start.{started, startOf, doneImage, startImage}
 use Rattle.views.specs.Small.{Small, small-set}
 use Rattle.accepted.specs.Rules.{ArenaRules, HeaderRules, Chain}

@@ -12,7 +12,7 @@ use Rattle.records.specs.declared.Header.{Header}
 use Rattle.records.specs.declared.Node.{Node}
 use Rattle.records.specs.declared.NodeIndex.{NodeIndex}
 use Rattle.records.specs.Records.{nodeOf}
-use Rattle.records.specs.Tests.{kidsOk}
+use Rattle.inspection.specs.Tests.{kidsOk}
 use Rattle.listing.specs.declared.Reached.{Reached}
 use Rattle.listing.specs.Step.{nearOf, farOf, openTo}
 use Rattle.trees.specs.Lists.{All}

@@ -7,7 +7,7 @@ use Prim.Native.Nat.{ℕ}
 use Rattle.keys.specs.declared.Key.{Key}
 use Rattle.records.specs.declared.Got.the-variants as got
 use Rattle.records.specs.Records.{headerOf, nodeOf, valueRecordOf}
-use Rattle.records.specs.Opening.{openOf}
+use Rattle.inspection.specs.Opening.{openOf}
 use Rattle.remove_steps.specs.Steps.{leafValue, loneImage, cutImage}
 use Rattle.remove.specs.declared.Plan.{Plan}
 use Rattle.remove.specs.Plan.{leafPlan, stopPlan}

@@ -7,7 +7,7 @@ use Rattle.node_allocator.specs.declared.Arena.the-variants.{Nodes, Values}
 use Rattle.node_allocator.specs.Steps.{connected, addIndex}
 use Rattle.records.specs.declared.Value.{Value}
 use Rattle.records.specs.Records.{nodeOf}
-use Rattle.records.specs.Opening.{openOf}
+use Rattle.inspection.specs.Opening.{openOf}
 use Rattle.insert.specs.declared.Plan.{Plan}
 use Rattle.insert.specs.declared.Plan.the-variants.{First, Replace, Split, Refused}
 use Rattle.insert.specs.Steps.{leafTaken, valueTaken, leafAdded, copyTaken, hung, duplicated, replaced, firstImage, forkedImage, splitImage, planImage, openedPlan, insertImage}

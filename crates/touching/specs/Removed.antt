@@ -7,7 +7,7 @@ use Rattle.keys.specs.declared.Key.{Key}
 use Rattle.node_allocator.specs.declared.Arena.the-variants.{Nodes, Values}
 use Rattle.node_allocator.specs.Steps.{connected, disconnected}
 use Rattle.records.specs.Records.{nodeOf}
-use Rattle.records.specs.Opening.{openOf}
+use Rattle.inspection.specs.Opening.{openOf}
 use Rattle.remove_steps.specs.Steps.{siblingOf, unhung, leafRemoved, contentMoved, valueMoved, kidsMoved, placeFreed, migrated, loneImage, cutImage}
 use Rattle.remove.specs.declared.Plan.{Plan}
 use Rattle.remove.specs.declared.Plan.the-variants.{Lone, Cut, Refused}

@@ -2,7 +2,7 @@
 use mathlib.Core.Path.{sym, _∙_}
 use native.Mathlib.Omega.{arith}
 use Rattle.words.specs.Words.{words}
-use Rattle.records.specs.Room.{used-within}
+use Rattle.inspection.specs.Room.{used-within}
 use Rattle.descent.specs.ByKind.{inner-small, unused, bits-inner, bits-leaf}
 use borrow.Author.Needs.{needs}
 use Rattle.descent.proofs.bits_step.Statement.{statement}

@@ -1,6 +1,6 @@
 -- `descent::lookup_step` meets its contract, by the kind of node. Assumes nothing.
 use mathlib.Core.Path.{sym, _∙_}
-use Rattle.records.specs.Room.{used-within}
+use Rattle.inspection.specs.Room.{used-within}
 use Rattle.descent.specs.ByKind.{unused, inner, leaf}
 use borrow.Author.Needs.{needs}
 use Rattle.descent.proofs.lookup_step.Statement.{statement}

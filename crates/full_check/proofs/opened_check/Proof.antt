@@ -1,6 +1,6 @@
 -- `full_check::opened_check` meets its contract. Assumes nothing.
 use mathlib.Core.Path.{sym, _∙_}
-use Rattle.records.specs.Room.{room, opened-words}
+use Rattle.inspection.specs.Room.{room, opened-words}
 use Rattle.full_check.specs.Check.{openedCheck}
 use borrow.Author.Needs.{needs}
 use Rattle.full_check.proofs.opened_check.Statement.{statement}

@@ -2,7 +2,7 @@
 use mathlib.Core.Path.{sym, ap, _∙_}
 use Prim.Native.Nat.{ℕ}
 use Rattle.records.specs.declared.Place.the-variants as place
-use Rattle.records.specs.Room.{opened-words}
+use Rattle.inspection.specs.Room.{opened-words}
 use Rattle.insert.specs.declared.Plan.the-variants.{First, Replace, Split}
 use Rattle.insert.specs.Steps.{planPlace, planImage}
 use Rattle.insert.specs.Ready.{plan-opened, split-within}

@@ -1,6 +1,6 @@
 -- `run::run` meets its contract: each command's arm. Assumes nothing.
 use native.Mathlib.Omega.{arith}
-use Rattle.records.specs.Outcome.{left-alone}
+use Rattle.inspection.specs.Outcome.{left-alone}
 use Rattle.commands.specs.Answers.{answerOf, imageAfter, keptBy}
 use borrow.Author.Needs.{needs}
 use Rattle.commands.proofs.run.run.Statement.{statement}

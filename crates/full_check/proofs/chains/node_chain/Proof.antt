@@ -4,7 +4,7 @@ use native.Mathlib.Omega.{arith}
 use borrow.Author.Needs.{needs}
 use borrow.Author.Tests.{not-true, not-false}
 use Rattle.words.specs.Words.{words}
-use Rattle.records.specs.Room.{used-within}
+use Rattle.inspection.specs.Room.{used-within}
 use Rattle.full_check.specs.Chains.{chainOf, nodeFree, nodeNext, nodeChain, chain-end, chain-outside, chain-taken, chain-more}
 use Rattle.full_check.proofs.chains.node_chain.Statement.{statement}
 use Rattle.full_check.proofs.chains.node_chain.Tie as tie

@@ -6,7 +6,7 @@ use borrow.Author.Needs.{needs}
 use borrow.Fn.Kinds.{In}
 use borrow.Fn.PlainCycle.{Measures, is, falls, and}
 use Rattle.words.specs.Words.{words}
-use Rattle.records.specs.Room.{used-within}
+use Rattle.inspection.specs.Room.{used-within}
 use Rattle.full_check.specs.Walked.{walked, unused, visit-passed, visit-counted, refused, at-leaf, left-failed, both}
 use Rattle.full_check.proofs.walk.walk.Reads as walk
 use Rattle.full_check.proofs.walk.walk.Kinds as walk-kinds
@@ -14,7 +14,7 @@ use Rattle.full_check.proofs.walk.+walk.Lts-walk as walk-lts
 use Rattle.full_check.proofs.walk.leaf_walk.Reads as leaf-walk-reads
 use Rattle.full_check.proofs.walk.visit_ok.Reads as visit-ok-reads
 use Rattle.records.proofs.read.node_in.Reads as node-in-reads
-use Rattle.records.proofs.tests.is_used.Reads as is-used-reads
+use Rattle.inspection.proofs.tests.is_used.Reads as is-used-reads
 use Rattle.full_check.proofs.walk.+walk.{statement}
 use Rattle.full_check.proofs.walk.+walk.Tie.{close}
 

@@ -1,6 +1,6 @@
 -- `tests::plan` meets its contract. Assumes nothing.
 use mathlib.Core.Path.{sym, _∙_}
-use Rattle.records.specs.Room.{opened-words}
+use Rattle.inspection.specs.Room.{opened-words}
 use Rattle.insert.specs.Ready.{ready}
 use Rattle.insert.specs.Steps.{openedPlan}
 use borrow.Author.Needs.{needs}

@@ -1,6 +1,6 @@
 -- `tests::split_plan` meets its contract: the node is a used one and so lies inside. Assumes nothing.
 use mathlib.Core.Bool.{and-assoc}
-use Rattle.records.specs.Room.{used-within}
+use Rattle.inspection.specs.Room.{used-within}
 use Rattle.insert.specs.Plan.{stopPlan}
 use borrow.Author.Needs.{needs}
 use Rattle.insert.proofs.tests.split_plan.Statement.{statement}

@@ -1,7 +1,7 @@
 -- `open::first_ok` meets its contract. Assumes nothing.
 use mathlib.Core.Path.{_≡_, sym, _∙_}
-use Rattle.records.specs.Tests.{formOk}
-use Rattle.records.specs.Room.{used-within}
+use Rattle.inspection.specs.Tests.{formOk}
+use Rattle.inspection.specs.Room.{used-within}
 use borrow.Author.Needs.{needs}
 use Rattle.listing.proofs.open.first_ok.Statement.{statement}
 use Rattle.listing.proofs.open.first_ok.Tie as tie

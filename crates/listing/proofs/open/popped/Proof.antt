@@ -4,7 +4,7 @@ use mathlib.Core.Logic.{_≢_}
 use mathlib.Core.Bool.{true}
 use mathlib.Core.Logic.{_⊎_, ⊎-elim}
 use mathlib.Core.Bool.{true≢false}
-use Rattle.records.specs.Room.{used-within}
+use Rattle.inspection.specs.Room.{used-within}
 use Rattle.listing.specs.Laws.{going, open-used, prefix-most, too-many, bad-kids, opens-on, nearer, landed}
 use mathlib.Core.Path.{_≡_, refl, sym, ap, _∙_}
 use mathlib.Core.Bool.{cond}

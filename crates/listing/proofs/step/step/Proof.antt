@@ -4,7 +4,7 @@ use native.Mathlib.Omega.{arith}
 use lib.Dec.{leb, eqb}
 use borrow.Author.Tests.{leb-true}
 use Rattle.words.specs.Tests.{and-l, and-r}
-use Rattle.records.specs.Room.{room, opened-words}
+use Rattle.inspection.specs.Room.{room, opened-words}
 use Rattle.listing.specs.Step.{movedOf}
 use Rattle.listing.specs.Ends.{openedEnd, endStep}
 use Rattle.listing.specs.Laws.{neither, one-of, some-count}

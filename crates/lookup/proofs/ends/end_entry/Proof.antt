@@ -1,6 +1,6 @@
 -- `ends::end_entry` meets its contract. Assumes nothing.
 use mathlib.Core.Path.{sym, _∙_}
-use Rattle.records.specs.Room.{room, opened-words}
+use Rattle.inspection.specs.Room.{room, opened-words}
 use Rattle.lookup.specs.Ends.{endEntry, openedEntry, targetEntry}
 use borrow.Author.Needs.{needs}
 use Rattle.lookup.proofs.ends.end_entry.Statement.{statement}

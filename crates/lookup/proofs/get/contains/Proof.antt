@@ -1,6 +1,6 @@
 -- `get::contains` meets its contract. Assumes nothing.
 use mathlib.Core.Path.{sym, _∙_}
-use Rattle.records.specs.Room.{room, opened-words}
+use Rattle.inspection.specs.Room.{room, opened-words}
 use Rattle.lookup.specs.Get.{containsOf, openedDone}
 use borrow.Author.Needs.{needs}
 use Rattle.lookup.proofs.get.contains.Statement.{statement}

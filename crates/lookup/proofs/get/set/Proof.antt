@@ -1,8 +1,8 @@
 -- `get::set` meets its contract: a refusal passes by every store. Assumes nothing.
 use mathlib.Core.Path.{sym, _∙_}
 use Rattle.records.specs.Numbers.{doneNumber}
-use Rattle.records.specs.Room.{opened-whole, opened-words}
-use Rattle.records.specs.Outcome.{wrote, left-alone}
+use Rattle.inspection.specs.Room.{opened-whole, opened-words}
+use Rattle.inspection.specs.Outcome.{wrote, left-alone}
 use Rattle.lookup.specs.Get.{writeOf, writeImage, targetDone, targetImage, target-opened}
 use borrow.Author.Needs.{needs}
 use Rattle.lookup.proofs.get.set.Statement.{statement}

@@ -1,8 +1,8 @@
 -- `start::start` meets its contract: a refusal passes by every store. Assumes nothing.
 use mathlib.Core.Path.{sym, _∙_}
 use Rattle.records.specs.Numbers.{doneNumber}
-use Rattle.records.specs.Room.{shaped-whole, image-words}
-use Rattle.records.specs.Outcome.{wrote, left-alone}
+use Rattle.inspection.specs.Room.{shaped-whole, image-words}
+use Rattle.inspection.specs.Outcome.{wrote, left-alone}
 use Rattle.lookup.specs.Start.{startImage, doneImage, started-shaped}
 use borrow.Author.Needs.{needs}
 use Rattle.lookup.proofs.start.start.Statement.{statement}

@@ -1,6 +1,6 @@
 -- `start::start_test` meets its contract. Assumes nothing.
 use mathlib.Core.Path.{sym, _∙_}
-use Rattle.records.specs.Room.{image-words}
+use Rattle.inspection.specs.Room.{image-words}
 use Rattle.lookup.specs.Start.{startOf}
 use borrow.Author.Needs.{needs}
 use Rattle.lookup.proofs.start.start_test.Statement.{statement}

@@ -1,6 +1,6 @@
 -- `tests::image_plan` meets its contract: an image that opens is the buffer's words. Assumes nothing.
 use mathlib.Core.Path.{sym, _∙_}
-use Rattle.records.specs.Room.{room, opened-words}
+use Rattle.inspection.specs.Room.{room, opened-words}
 use Rattle.remove.specs.Steps.{openedPlan}
 use borrow.Author.Needs.{needs}
 use Rattle.remove.proofs.tests.image_plan.Statement.{statement}

@@ -1,8 +1,8 @@
 -- `tests::sibling_ok` meets its contract: a sibling that was never used fails its test, and any other lies inside. Assumes nothing.
 use mathlib.Core.Path.{sym, _∙_}
 use borrow.Author.Tests.{lt-ltb, le-ltb}
-use Rattle.records.specs.Room.{used-within}
-use Rattle.records.specs.Tests.{nodeOk, formOk}
+use Rattle.inspection.specs.Room.{used-within}
+use Rattle.inspection.specs.Tests.{nodeOk, formOk}
 use Rattle.remove.specs.Plan.{siblingOk}
 use borrow.Author.Needs.{needs}
 use Rattle.remove.proofs.tests.sibling_ok.Statement.{statement}

@@ -1,0 +1,22 @@
+-- `tests::header_ok` meets its contract. Assumes nothing.
+use Rattle.inspection.specs.Tests.{headerOk}
+use borrow.Author.Needs.{needs}
+use Rattle.inspection.proofs.tests.header_ok.Statement.{statement}
+use Rattle.inspection.proofs.tests.header_ok.Tie as tie
+
+counts-ok-requires : tie.Need-counts-ok-requires
+counts-ok-requires c κs = search needs
+
+arena-ok-requires : tie.Need-arena-ok-requires
+arena-ok-requires c κs = search needs
+
+arena-ok-requires-2 : tie.Need-arena-ok-requires-2
+arena-ok-requires-2 c κs = search needs
+
+returns : tie.Need-returns
+unfolding headerOk
+returns c = cc
+
+pub header-ok-spec : {M : Type 1} → statement M
+header-ok-spec =
+    tie.close (tie.spec counts-ok-requires arena-ok-requires arena-ok-requires-2 returns)
