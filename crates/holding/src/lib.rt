@@ -1,6 +1,6 @@
 // A listing that holds the image it lists: thin functions over a struct of the lent image, the numbers M and N, and the position.
 // The work is done by `listing::step`, on the image and the position; each function here takes the struct apart and calls it.
-// A function that takes, makes or has a local of the struct is proved by hand; whoever calls `first` or `first_and_last` is covered again.
+// A function that takes, makes or has a local of the struct is proved by hand; whoever calls `first_and_last` is covered again.
 use listing::Position;
 use listing::step;
 use records::Entry;
@@ -69,14 +69,6 @@ pub fn moved<'a>(l: Listing<'a>, position: Position) -> Listing<'a>
     }
 }
 
-// The first entry of an image.
-pub fn first(image: &[u8], m: u32, n: u32) -> Entry
-    ensures { λ r. ⌜ r ≡ heldStep false (begun (image .entry) m n) .entry ⌝ }
-{
-    let mut l = list(image, m, n);
-    next(&mut l)
-}
-
 // What a listing gives first at its front, and then at its back.
 pub struct Ends {
     pub first: Entry,
@@ -93,11 +85,13 @@ pub fn first_and_last(image: &[u8], m: u32, n: u32) -> Ends
     Ends { first, last }
 }
 
-// Whether an image has a first entry. A caller of `first`, whose parameters are plain, needs no walk.
+// Whether an image has a first entry. A caller of `first_and_last`, whose parameters are plain, needs no walk.
 pub fn has_entry(image: &[u8], m: u32, n: u32) -> bool
     ensures { λ r. ⌜ r ≡ isEntry (heldStep false (begun (image .entry) m n) .entry) ⌝ }
 {
-    match first(image, m, n) {
+    let ends = first_and_last(image, m, n);
+    let first = ends.first;
+    match first {
         Entry::Is(k, v) => true,
         Entry::Refused(r) => false,
     }
