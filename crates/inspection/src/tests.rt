@@ -127,7 +127,7 @@ pub fn node_ok(h: Header, i: NodeIndex, above: NodeIndex, low: u64, x: Node) -> 
 }
 
 // The node at an index, tested as a visited node.
-pub fn visited_ok(img: &[u8], h: Header, i: NodeIndex, above: NodeIndex, low: u64) -> bool
+fn visited_ok(img: &[u8], h: Header, i: NodeIndex, above: NodeIndex, low: u64) -> bool
     requires { ⌜ 12 * h .nodes .bump ≤ length (words (now img)) + 4 ⌝ }
     ensures { λ r. ⌜ r ≡ nodeOk h (i .0) (above .0) low (nodeOf (words (now (img .entry))) (i .0)) ⌝ }
 {

@@ -23,7 +23,7 @@ ghost use Rattle.inspection.specs.Outcome.{Leaves};
 ghost use Rattle.lookup.specs.Get.{leafTarget, stopTarget, targetOf, getOf, stopDone, containsOf, stopPlace, addrOf, writeOf, writeImage};
 
 // The value record that a leaf names, tested before its value is read or written.
-pub fn leaf_target(img: &[u8], n: u32, i: NodeIndex, j: ValueIndex) -> Target
+fn leaf_target(img: &[u8], n: u32, i: NodeIndex, j: ValueIndex) -> Target
     ensures { λ r. ⌜ r ≡ leafTarget n (words (now (img .entry))) i j ⌝ }
 {
     let record = value_record(img, n, j);
