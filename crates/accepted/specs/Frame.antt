@@ -13,7 +13,7 @@ use Rattle.records.specs.Records.{nodeOf, valueRecordOf}
 use Rattle.trees.specs.Tree.{Tree, leaf, inner, top}
 use Rattle.trees.specs.Lists.{All}
 use Rattle.trees.specs.Nodes.{In}
-use Rattle.views.specs.Nodes.{withField}
+use Rattle.record_views.specs.Nodes.{withField}
 use Rattle.accepted.specs.Rules.{Holds, Chain}
 use Rattle.accepted.specs.Held.{once}
 

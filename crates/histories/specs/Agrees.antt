@@ -28,12 +28,12 @@ use Rattle.trees.specs.Lookup.{is-some, valueOf}
 use Rattle.trees.specs.Map.{lookupIn}
 use Rattle.accepted.specs.Accepted.{Accepted}
 use Rattle.accepted.specs.Tests.{shape-passes}
-use Rattle.finding.specs.Answers.{listed, held-listed, placeFrom, get-agrees, contains-agrees, addr-agrees, end-agrees, length-agrees, capacity-agrees}
-use Rattle.setting.specs.Start.{Blank, started-accepted, started-listed, start-agrees}
-use Rattle.setting.specs.Call.{write-agrees}
-use Rattle.adding.specs.Call.{insert-agrees}
-use Rattle.taking.specs.Call.{remove-agrees}
-use Rattle.checking.specs.Exact.{check-complete}
+use Rattle.accepted_lookup.specs.Answers.{listed, held-listed, placeFrom, get-agrees, contains-agrees, addr-agrees, end-agrees, length-agrees, capacity-agrees}
+use Rattle.accepted_write.specs.Start.{Blank, started-accepted, started-listed, start-agrees}
+use Rattle.accepted_write.specs.Call.{write-agrees}
+use Rattle.accepted_insert.specs.Call.{insert-agrees}
+use Rattle.accepted_remove.specs.Call.{remove-agrees}
+use Rattle.accepted_check.specs.Exact.{check-complete}
 use Rattle.histories.specs.Calls.{Question, get, contains, address, len, capacity, smallest, largest, check}
 use Rattle.histories.specs.Calls.{Call, start, insert, remove, write, ask, Fitting, done-is, got-is, place-is, entry-is, count-is, questionAnswer, answerOf, imageOf, answers, imageAfter}
 use Rattle.histories.specs.Calls.{Entries, somewhere, indexless, blankReply, listReply, full, listAnswer, listNext, State, blank, holding, stateAnswer, stateNext, stateAnswers, stateAfter}

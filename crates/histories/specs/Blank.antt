@@ -28,7 +28,7 @@ use Rattle.remove.specs.Steps as removing
 use Rattle.full_check.specs.Check.{openedCheck, checkShape, checkOf}
 use Rattle.accepted.specs.Accepted.{Accepted}
 use Rattle.accepted.specs.Tests.{shape-passes, header-rules}
-use Rattle.setting.specs.Start.{Blank}
+use Rattle.accepted_write.specs.Start.{Blank}
 use Rattle.histories.specs.Calls.{Question, get, contains, address, len, capacity, smallest, largest, check, done-is, questionAnswer, blankReply}
 
 -- the node bump is word 6

@@ -29,10 +29,10 @@ use Rattle.full_check.specs.Check.{checkOf}
 use Rattle.trees.specs.Ends.{endOf}
 use Rattle.trees.specs.Lookup.{find, held}
 use Rattle.trees.specs.Remove.{erase}
-use Rattle.views.specs.Small.{FitsValue}
-use Rattle.finding.specs.Answers.{gotFrom, doneFrom, entryFrom}
-use Rattle.setting.specs.Write.{update}
-use Rattle.adding.specs.Entered.{enter}
+use Rattle.record_views.specs.Small.{FitsValue}
+use Rattle.accepted_lookup.specs.Answers.{gotFrom, doneFrom, entryFrom}
+use Rattle.accepted_write.specs.Write.{update}
+use Rattle.accepted_insert.specs.Entered.{enter}
 
 -- ---- the calls
 

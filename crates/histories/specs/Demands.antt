@@ -21,10 +21,10 @@ use Rattle.lookup.specs.Promises.{start-kept, set-kept}
 use Rattle.insert.specs.Steps.{insertOf, insertImage}
 use Rattle.insert.specs.Promises.{refusal-keeps}
 use Rattle.remove.specs.Promises.{refused-keeps}
-use Rattle.touching.specs.Stores.{Touched, untouched}
-use Rattle.touching.specs.Inserted.{insert-touched}
-use Rattle.touching.specs.Removed.{remove-touched}
-use Rattle.touching.specs.Written.{start-touched, write-touched}
+use Rattle.records_touched.specs.Stores.{Touched, untouched}
+use Rattle.records_touched.specs.Inserted.{insert-touched}
+use Rattle.records_touched.specs.Removed.{remove-touched}
+use Rattle.records_touched.specs.Written.{start-touched, write-touched}
 use Rattle.full_check.specs.Check.{checkOf}
 use Rattle.listing.specs.declared.Position.{Position}
 use Rattle.trees.specs.Lists.{All}
@@ -32,14 +32,14 @@ use Rattle.trees.specs.Tree.{Rising}
 use Rattle.trees.specs.Lookup.{held}
 use Rattle.trees.specs.Map.{shapeIs}
 use Rattle.trees.specs.Shape.{shape}
-use Rattle.views.specs.Small.{Small, FitsValue}
+use Rattle.record_views.specs.Small.{Small, FitsValue}
 use Rattle.accepted.specs.Rules.{leafNode}
 use Rattle.accepted.specs.Accepted.{Accepted}
 use Rattle.accepted.specs.Tests.{shape-passes}
-use Rattle.finding.specs.Answers.{listed}
-use Rattle.setting.specs.Start.{Blank}
-use Rattle.adding.specs.Call.{insert-full}
-use Rattle.checking.specs.Exact.{Exact, check-exact, check-complete, check-sound}
+use Rattle.accepted_lookup.specs.Answers.{listed}
+use Rattle.accepted_write.specs.Start.{Blank}
+use Rattle.accepted_insert.specs.Call.{insert-full}
+use Rattle.accepted_check.specs.Exact.{Exact, check-exact, check-complete, check-sound}
 use Rattle.histories.specs.Calls.{Call, start, insert, remove, write, ask, Fitting, Answer, numberIn, answerOf, imageOf, answers, imageAfter}
 use Rattle.histories.specs.Calls.{Entries, indexless, listAnswer, listNext, State, blank, holding, stateAnswers, stateAfter}
 use Rattle.histories.specs.Agrees.{Is, call-agrees, history}

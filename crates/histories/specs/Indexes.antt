@@ -25,11 +25,11 @@ use Rattle.trees.specs.Keys.{same, bit, shared}
 use Rattle.trees.specs.Tree.{Tree, leaf, inner, Ordered}
 use Rattle.trees.specs.Lookup.{held, lookup}
 use Rattle.trees.specs.Map.{Map, lookupIn, OrderedMap}
-use Rattle.views.specs.Small.{FitsValue}
+use Rattle.record_views.specs.Small.{FitsValue}
 use Rattle.accepted.specs.Rules.{Holds, leafNode}
 use Rattle.accepted.specs.Accepted.{Accepted, HoldsMap}
-use Rattle.finding.specs.Answers.{listed, placeFrom, addr-agrees}
-use Rattle.adding.specs.Call.{insert-agrees}
+use Rattle.accepted_lookup.specs.Answers.{listed, placeFrom, addr-agrees}
+use Rattle.accepted_insert.specs.Call.{insert-agrees}
 use Rattle.histories.specs.Calls.{Answer, place-is, indexless, somewhere, ask, address}
 use Rattle.histories.specs.Agrees.{call-agrees}
 

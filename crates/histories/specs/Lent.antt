@@ -13,8 +13,8 @@ use Rattle.records.specs.Layout as layout
 use Rattle.inspection.specs.Room.{Shaped}
 use Rattle.full_check.specs.Check.{checkOf}
 use Rattle.trees.specs.Tree.{Rising}
-use Rattle.views.specs.Small.{Small}
-use Rattle.checking.specs.Exact.{Exact}
+use Rattle.record_views.specs.Small.{Small}
+use Rattle.accepted_check.specs.Exact.{Exact}
 use Rattle.histories.specs.Calls.{Call, Fitting, Entries}
 use Rattle.histories.specs.Demands.{AsTheList, answers-as-one-list, check-is-exact}
 

@@ -26,14 +26,14 @@ use Rattle.trees.specs.Ends.{endOf, restOf}
 use Rattle.trees.specs.Lookup.{held, unheld, find-none}
 use Rattle.trees.specs.Remove.{erase, erase-none}
 use Rattle.accepted.specs.Accepted.{Accepted}
-use Rattle.finding.specs.Answers.{listed, gotFrom, entryFrom}
-use Rattle.setting.specs.Write.{update}
-use Rattle.setting.specs.Start.{Blank}
-use Rattle.adding.specs.Entered.{enter}
-use Rattle.adding.specs.Call.{insert-agrees}
-use Rattle.taking.specs.Call.{remove-agrees}
-use Rattle.stepping.specs.Related.{made-agrees}
-use Rattle.stepping.specs.Moments.{Moment, moment-made, moment-gives, moment-stepped, moment-written, moment-small}
+use Rattle.accepted_lookup.specs.Answers.{listed, gotFrom, entryFrom}
+use Rattle.accepted_write.specs.Write.{update}
+use Rattle.accepted_write.specs.Start.{Blank}
+use Rattle.accepted_insert.specs.Entered.{enter}
+use Rattle.accepted_insert.specs.Call.{insert-agrees}
+use Rattle.accepted_remove.specs.Call.{remove-agrees}
+use Rattle.accepted_listing.specs.Related.{made-agrees}
+use Rattle.accepted_listing.specs.Moments.{Moment, moment-made, moment-gives, moment-stepped, moment-written, moment-small}
 use Rattle.histories.specs.Calls.{Call, start, insert, remove, write, ask, Fitting, Answer, done-is, entry-is, answerOf, imageOf, Entries, indexless, full, State, blank, holding, stateAnswer, stateNext}
 use Rattle.histories.specs.Blank.{start-refused, shut-blank}
 use Rattle.histories.specs.Agrees.{Is, agrees}

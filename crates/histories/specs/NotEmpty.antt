@@ -15,11 +15,11 @@ use Rattle.records.specs.declared.Value.{Value}
 use Rattle.records.specs.Layout.{imageLength, mostValues, mostNodes}
 use Rattle.trees.specs.Lists.{All}
 use Rattle.trees.specs.Tree.{Rising}
-use Rattle.views.specs.Small.{FitsValue}
+use Rattle.record_views.specs.Small.{FitsValue}
 use Rattle.accepted.specs.Accepted.{Accepted}
-use Rattle.finding.specs.Answers.{listed}
-use Rattle.setting.specs.Start.{Blank}
-use Rattle.adding.specs.Entered.{enter}
+use Rattle.accepted_lookup.specs.Answers.{listed}
+use Rattle.accepted_write.specs.Start.{Blank}
+use Rattle.accepted_insert.specs.Entered.{enter}
 use Rattle.histories.specs.Calls.{Call, start, insert, Fitting, Entries, full, State, blank, holding, imageAfter, stateAfter}
 use Rattle.histories.specs.Agrees.{Is, history}
 

@@ -18,7 +18,7 @@ use Rattle.trees.specs.Keys.{same}
 use Rattle.trees.specs.Ends.{endOf}
 use Rattle.trees.specs.Lookup.{find, held}
 use Rattle.accepted.specs.Accepted.{Accepted}
-use Rattle.finding.specs.Answers.{listed, gotFrom, doneFrom, entryFrom}
+use Rattle.accepted_lookup.specs.Answers.{listed, gotFrom, doneFrom, entryFrom}
 use Rattle.histories.specs.Calls.{Question, get, contains, address, len, capacity, smallest, largest, check, Call, start, insert, remove, write, ask, Fitting}
 use Rattle.histories.specs.Calls.{Answer, done-is, got-is, place-is, entry-is, count-is, numberIn, answerOf, indexless, somewhere, Entries, full, listAnswer}
 use Rattle.histories.specs.Agrees.{call-agrees}

@@ -17,8 +17,8 @@ use Rattle.trees.specs.Shape.{shape}
 use Rattle.trees.specs.Paths.{depth, depth-bound}
 use Rattle.accepted.specs.Rules.{Holds}
 use Rattle.accepted.specs.Accepted.{Accepted, HoldsMap, valueAtRecord}
-use Rattle.finding.specs.Answers.{valued, valued-rising, listed}
-use Rattle.adding.specs.Planned.{sized}
+use Rattle.accepted_lookup.specs.Answers.{valued, valued-rising, listed}
+use Rattle.accepted_insert.specs.Planned.{sized}
 
 -- the keys of a list, in its order
 abbrev pub keysOf : {A : Type 0} → List (Key × A) → List Key

@@ -16,7 +16,7 @@ use Rattle.trees.specs.Shape.{Shape, lone, branch, shapeOf, shape}
 use Rattle.trees.specs.Shape as shapes
 use Rattle.trees.specs.Paths.{depth, powers, longest-path}
 use Rattle.accepted.specs.Accepted.{Accepted}
-use Rattle.finding.specs.Answers.{listed}
+use Rattle.accepted_lookup.specs.Answers.{listed}
 use Rattle.histories.specs.Calls.{Call, start, Entries, imageAfter}
 use Rattle.histories.specs.Shapes.{keysOf, longest, canonical-shape}
 use Rattle.histories.specs.NotEmpty.{Limits, zeroWords, inserts, FitsEntry, every-list}

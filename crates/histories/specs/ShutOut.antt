@@ -28,13 +28,13 @@ use Rattle.trees.specs.Tree.{Rising}
 use Rattle.trees.specs.Insert.{put, length-put}
 use Rattle.trees.specs.Lookup.{find, held}
 use Rattle.trees.specs.Remove.{erase, length-erase}
-use Rattle.views.specs.Small.{FitsValue}
+use Rattle.record_views.specs.Small.{FitsValue}
 use Rattle.accepted.specs.Accepted.{Accepted}
-use Rattle.finding.specs.Answers.{listed, gotFrom, get-agrees, length-agrees}
-use Rattle.setting.specs.Write.{update}
-use Rattle.adding.specs.Entered.{enter, enter-either}
-use Rattle.adding.specs.Call.{insert-agrees}
-use Rattle.taking.specs.Call.{remove-agrees}
+use Rattle.accepted_lookup.specs.Answers.{listed, gotFrom, get-agrees, length-agrees}
+use Rattle.accepted_write.specs.Write.{update}
+use Rattle.accepted_insert.specs.Entered.{enter, enter-either}
+use Rattle.accepted_insert.specs.Call.{insert-agrees}
+use Rattle.accepted_remove.specs.Call.{remove-agrees}
 use Rattle.histories.specs.Calls.{get, len, check, Call, start, insert, remove, ask, Fitting, Answer, done-is, got-is, place-is, entry-is, count-is, answers, Entries, somewhere, indexless, blank}
 use Rattle.histories.specs.Agrees.{history}
 use Rattle.histories.specs.Shapes.{ascends}

@@ -1,8 +1,8 @@
-//! Records a sample of the original's answers for crate `replay`, to standard output:
+//! Records a sample of the original's answers for crate `test_replay`, to standard output:
 //!
 //!     record SEED COUNT
 //!
-//! with COUNT calls of each kind for each pair M, N up to 7, 20. The records' form is in crates/replay/src/main.rt.
+//! with COUNT calls of each kind for each pair M, N up to 7, 20. The records' form is in crates/test_replay/src/main.rt.
 
 use oracle::apply::guarded;
 use oracle::generate::{Generator, KINDS};
