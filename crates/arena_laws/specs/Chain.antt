@@ -1,18 +1,19 @@
 -- The chain of freed records, from the head through register 0 of each to the bump: document 01, "each chain from head ends at bump". Adding a record takes the chain's
 -- first, or the one at the bump where the chain is empty, and removing a record puts it in front.
-use mathlib.Core.Path.{_≡_, refl, sym, ap, _∙_}
+use mathlib.Core.Path.{_≡_, refl, sym, ap, subst, _∙_}
 use mathlib.Core.List.{List, [], _∷_}
 use mathlib.Core.Logic.{_≢_, inr}
 use Prim.Native.Nat.{ℕ, _+_, _%_, _^_, _≤_, _<_}
 use native.Mathlib.Omega.{arith}
 use lib.ListN.{length, getD}
 use Rattle.node_allocator.specs.declared.Arena.{Arena}
-use Rattle.node_allocator.specs.declared.Field.the-variants.{Left}
-use Rattle.node_allocator.specs.Layout.{headerAt, recordAt, registerOf}
-use Rattle.node_allocator.specs.Steps.{countsOf, setSize, setHead, getRegister, setRegister, addIndex, addImage, removeImage}
-use Rattle.arena_laws.specs.Places.{Inside, inside-is, Lies, past-header, header-within, apart, width-some}
-use Rattle.arena_laws.specs.Laws.{Outside, register-word, register-stored, register-length, counts-register}
-use Rattle.arena_laws.specs.Taken.{add-head, add-freed, add-fresh, add-others, remove-counts, remove-others, remove-left}
+use Rattle.node_allocator.specs.declared.Counts.{Counts}
+use Rattle.node_allocator.specs.declared.Register.the-variants.{Left}
+use Rattle.node_allocator.specs.Layout.{recordAt}
+use Rattle.node_allocator.specs.Steps.{getRegister, addCounts, addImage, removeCounts, removeImage}
+use Rattle.arena_laws.specs.Places.{Inside, Lies, past-header, apart, width-some}
+use Rattle.arena_laws.specs.Laws.{Outside, register-word}
+use Rattle.arena_laws.specs.Taken.{add-freed, add-fresh, add-others, remove-is, remove-others, remove-left}
 
 -- from i the chain goes through these records, each named by the one before it, and ends at `end`
 unfoldable pub Chain : Arena → List ℕ → ℕ → ℕ → List ℕ → Type 0
@@ -59,36 +60,33 @@ module _ (a : Arena) (ws vs : List ℕ) (i : ℕ) (low : 1 ≤ i)
         rest = rw (link-kept j (c .named) (n .0)) (chain-kept end (getRegister a ws j Left) js (n .1) (c .rest));
       }
 
--- ---- adding and removing
+-- ---- adding and removing, with the header c
 
-module _ (a : Arena) (ws : List ℕ) (lies : Lies a (length ws)) where
+module _ (a : Arena) (ws : List ℕ) (c : Counts) where
   -- the chain loses its first, which is the record that is added
-  pub chain-add : (j : ℕ) (js : List ℕ) → Without j js → Chain a ws (countsOf a ws .bump) (countsOf a ws .head) (j ∷ js)
-      → (addIndex a ws ≡ j) × Chain a (addImage a ws) (countsOf a (addImage a ws) .bump) (countsOf a (addImage a ws) .head) js
+  pub chain-add : (j : ℕ) (js : List ℕ) → Without j js → Chain a ws (c .bump) (c .head) (j ∷ js)
+      → (c .head ≡ j) × Chain a (addImage a ws c) (addCounts a ws c .bump) (addCounts a ws c .head) js
   unfolding Chain
-  chain-add j js n c =
-      let h : countsOf a ws .head ≡ j = c .here in
-      let named : Inside a (countsOf a ws .head) = rw h (c .named) in
-      let counts = add-freed a ws lies named (λ e. c .inner (sym h ∙ e)) in
-      let same : (k : ℕ) → Outside a k → k ≢ recordAt a j → getD (addImage a ws) k 0 ≡ getD ws k 0 =
-      λ k o d. add-others a ws k o (λ e. d (e ∙ ap (recordAt a) h)) in
-      let kept : Chain a (addImage a ws) (countsOf a ws .bump) (getRegister a ws j Left) js =
-      chain-kept a ws (addImage a ws) j (c .named .low) same (countsOf a ws .bump) (getRegister a ws j Left) js n (c .rest) in
-      (add-head a ws lies named ∙ h, rw (counts, h) kept)
+  chain-add j js n k =
+      let h : c .head ≡ j = k .here in
+      let named : Inside a (c .head) = rw h (k .named) in
+      let same : (p : ℕ) → Outside a p → p ≢ recordAt a j → getD (addImage a ws c) p 0 ≡ getD ws p 0 =
+      λ p o d. add-others a ws c p o (λ e. d (e ∙ ap (recordAt a) h)) in
+      let kept : Chain a (addImage a ws c) (c .bump) (getRegister a ws j Left) js =
+      chain-kept a ws (addImage a ws c) j (k .named .low) same (c .bump) (getRegister a ws j Left) js n (k .rest) in
+      (h, rw (add-freed a ws c named (λ e. k .inner (sym h ∙ e))) (subst (λ (x : ℕ). Chain a (addImage a ws c) (c .bump) (getRegister a ws x Left) js) (sym h) kept))
 
   -- an empty chain: the record at the bump is added, and the chain is empty again
-  pub chain-fresh : Inside a (countsOf a ws .head) → countsOf a ws .head + 1 < 2 ^ 32 → Chain a ws (countsOf a ws .bump) (countsOf a ws .head) []
-      → (addIndex a ws ≡ countsOf a ws .bump) × Chain a (addImage a ws) (countsOf a (addImage a ws) .bump) (countsOf a (addImage a ws) .head) []
+  pub chain-fresh : Inside a (c .head) → c .head + 1 < 2 ^ 32 → Chain a ws (c .bump) (c .head) []
+      → (c .head ≡ c .bump) × Chain a (addImage a ws c) (addCounts a ws c .bump) (addCounts a ws c .head) []
   unfolding Chain
-  chain-fresh named small c = (add-head a ws lies named ∙ c, rw (add-fresh a ws lies named c small) refl)
+  chain-fresh named small k = (k, rw (add-fresh a ws c named k small) refl)
 
   -- a removed record stands in front
-  pub chain-remove : (i : ℕ) (js : List ℕ) → Inside a i → i ≢ countsOf a ws .bump → Without i js
-      → Chain a ws (countsOf a ws .bump) (countsOf a ws .head) js
-      → Chain a (removeImage a ws i) (countsOf a (removeImage a ws i) .bump) (countsOf a (removeImage a ws i) .head) (i ∷ js)
+  pub chain-remove : Lies a (length ws) → (i : ℕ) (js : List ℕ) → Inside a i → i ≢ c .bump → Without i js → Chain a ws (c .bump) (c .head) js
+      → Chain a (removeImage a ws i c) (removeCounts a c i .bump) (removeCounts a c i .head) (i ∷ js)
   unfolding Chain
-  chain-remove i js named d n c =
-      let kept : Chain a (removeImage a ws i) (countsOf a ws .bump) (countsOf a ws .head) js =
-      chain-kept a ws (removeImage a ws i) i (named .low) (remove-others a ws i) (countsOf a ws .bump) (countsOf a ws .head) js n c in
-      let counts = remove-counts a ws i lies named in
-      rw counts (record { here = refl; named = named; inner = d; rest = rw (remove-left a ws i lies named) kept })
+  chain-remove lies i js named d n k =
+      let kept : Chain a (removeImage a ws i c) (c .bump) (c .head) js =
+      chain-kept a ws (removeImage a ws i c) i (named .low) (remove-others a ws i c) (c .bump) (c .head) js n k in
+      rw (remove-is a ws i c named) (record { here = refl; named = named; inner = d; rest = rw (remove-left a ws i c named lies) kept })

@@ -12,10 +12,10 @@ use borrow.Author.Tests.{eq-eqb, ne-eqb}
 use Rattle.words.specs.Wide.{wideAt, setWide, wide-stored, set-wide-length, set-wide-others}
 use Rattle.node_allocator.specs.declared.Arena.{Arena}
 use Rattle.node_allocator.specs.declared.Counts.{Counts}
-use Rattle.node_allocator.specs.declared.Field.{Field}
-use Rattle.node_allocator.specs.declared.Field.the-variants.{Left}
+use Rattle.node_allocator.specs.declared.Register.{Register}
+use Rattle.node_allocator.specs.declared.Register.the-variants.{Left}
 use Rattle.node_allocator.specs.Layout.{headerAt, recordAt, registerOf, inside}
-use Rattle.node_allocator.specs.Steps.{countsOf, setSize, setHead, getRegister, setRegister, clearRegister, freshTaken, freedTaken, unlinked, addIndex, addImage, removeImage}
+use Rattle.node_allocator.specs.Steps.{countsOf, setCounts, getRegister, setRegister}
 use Rattle.arena_laws.specs.Places.{Inside, inside-is, Lies, register-small, width-some, past-header, within, header-within}
 
 -- a word that no step of an arena changes, but for register 0 of the record that it takes or frees
@@ -24,7 +24,7 @@ Outside a k = (k < headerAt a) ⊎ (headerAt a + 4 ≤ k)
 
 -- ---- registers
 
-module _ (a : Arena) (ws : List ℕ) (i v : ℕ) (f : Field) where
+module _ (a : Arena) (ws : List ℕ) (i v : ℕ) (f : Register) where
   pub register-length : length (setRegister a ws i v f) ≡ length ws
   unfolding setRegister
   register-length = go (inside a i)
@@ -50,7 +50,7 @@ module _ (a : Arena) (ws : List ℕ) (i v : ℕ) (f : Field) where
       rw (inside-is h) (getD-set-same ws (recordAt a i + registerOf f) v 0 place)
 
 -- a register is what its word is
-pub register-word : {a : Arena} (ws : List ℕ) {i : ℕ} (f : Field) → Inside a i → getRegister a ws i f ≡ getD ws (recordAt a i + registerOf f) 0
+pub register-word : {a : Arena} (ws : List ℕ) {i : ℕ} (f : Register) → Inside a i → getRegister a ws i f ≡ getD ws (recordAt a i + registerOf f) 0
 unfolding getRegister
 register-word ws f h = rw (inside-is h)
 
@@ -66,7 +66,7 @@ counts-same a ws vs f =
     simp (zero, one, two, three)
 
 -- a register's store keeps it
-pub counts-register : (a : Arena) (ws : List ℕ) (i v : ℕ) (f : Field) → 1 ≤ i → countsOf a (setRegister a ws i v f) ≡ countsOf a ws
+pub counts-register : (a : Arena) (ws : List ℕ) (i v : ℕ) (f : Register) → 1 ≤ i → countsOf a (setRegister a ws i v f) ≡ countsOf a ws
 counts-register a ws i v f h =
     counts-same a ws (setRegister a ws i v f) (λ k l m. register-others a ws i v f k (λ e. omega (arith, past-header a i h)))
 
@@ -76,30 +76,41 @@ counts-set a ws p v o =
     counts-same a ws (set ws p v)
     (λ k l m. getD-set-other ws p k v 0 (λ e. ⊎-elim (λ (x : p < headerAt a). omega arith) (λ (x : headerAt a + 4 ≤ p). omega arith) o))
 
-module _ (a : Arena) (ws : List ℕ) (room : headerAt a + 4 ≤ length ws) where
-  pub counts-size : (n : ℕ) → countsOf a (setSize a ws n) ≡ record { size = n; bump = countsOf a ws .bump; head = countsOf a ws .head }
-  unfolding countsOf
-  counts-size n =
-      let two : headerAt a + 2 ≢ headerAt a = λ e. omega arith in
-      let two′ : headerAt a + 2 ≢ headerAt a + 1 = λ e. omega arith in
-      let three : headerAt a + 3 ≢ headerAt a = λ e. omega arith in
-      let three′ : headerAt a + 3 ≢ headerAt a + 1 = λ e. omega arith in
-      simp (wide-stored ws (headerAt a) n (omega arith), set-wide-others)
+-- ---- the header is stored
 
-  pub counts-head : (i : ℕ) → countsOf a (setHead a ws i) ≡ record { size = countsOf a ws .size; bump = countsOf a ws .bump; head = i }
-  unfolding countsOf wideAt
-  counts-head i =
-      let zero : headerAt a ≢ headerAt a + 3 = λ e. omega arith in
-      let one : headerAt a + 1 ≢ headerAt a + 3 = λ e. omega arith in
-      let two : headerAt a + 2 ≢ headerAt a + 3 = λ e. omega arith in
-      let there : headerAt a + 3 < length ws = omega arith in
-      simp (getD-set-other, getD-set-same)
+wide-kept : (vs : List ℕ) (p v k : ℕ) → k ≢ p → k + 1 ≢ p → wideAt (set vs p v) k ≡ wideAt vs k
+unfolding wideAt
+wide-kept vs p v k d e = rw (getD-set-other vs p k v 0 d, getD-set-other vs p (k + 1) v 0 e)
 
-  pub counts-bump : (i : ℕ) → countsOf a (set ws (headerAt a + 2) i) ≡ record { size = countsOf a ws .size; bump = i; head = countsOf a ws .head }
-  unfolding countsOf wideAt
-  counts-bump i =
-      let zero : headerAt a ≢ headerAt a + 2 = λ e. omega arith in
-      let one : headerAt a + 1 ≢ headerAt a + 2 = λ e. omega arith in
-      let three : headerAt a + 3 ≢ headerAt a + 2 = λ e. omega arith in
-      let there : headerAt a + 2 < length ws = omega arith in
-      simp (getD-set-other, getD-set-same)
+module _ (a : Arena) (ws : List ℕ) (c : Counts) where
+  pub counts-length : length (setCounts a ws c) ≡ length ws
+  unfolding setCounts
+  counts-length = simp (length-set, set-wide-length)
+
+  -- no word outside the header
+  pub counts-others : (k : ℕ) → Outside a k → getD (setCounts a ws c) k 0 ≡ getD ws k 0
+  unfolding setCounts
+  counts-others k o =
+      getD-set-other (set (setWide ws (headerAt a) (c .size)) (headerAt a + 2) (c .bump)) (headerAt a + 3) k (c .head) 0 (off 3 (omega arith))
+      ∙ getD-set-other (setWide ws (headerAt a) (c .size)) (headerAt a + 2) k (c .bump) 0 (off 2 (omega arith))
+      ∙ set-wide-others ws (headerAt a) (c .size) k (λ e. off 0 (omega arith) (omega arith)) (off 1 (omega arith))
+    where
+      off : (r : ℕ) → r < 4 → k ≢ headerAt a + r
+      off r s e = ⊎-elim (λ (x : k < headerAt a). omega arith) (λ (x : headerAt a + 4 ≤ k). omega arith) o
+
+  -- it is read back
+  pub counts-stored : headerAt a + 4 ≤ length ws → countsOf a (setCounts a ws c) ≡ c
+  unfolding countsOf setCounts
+  counts-stored room =
+      let vs : List ℕ = setWide ws (headerAt a) (c .size) in
+      let us : List ℕ = set vs (headerAt a + 2) (c .bump) in
+      let long : length vs ≡ length ws = set-wide-length ws (headerAt a) (c .size) in
+      let long′ : length us ≡ length ws = length-set vs (headerAt a + 2) (c .bump) ∙ long in
+      let size : wideAt (set us (headerAt a + 3) (c .head)) (headerAt a) ≡ c .size =
+      wide-kept us (headerAt a + 3) (c .head) (headerAt a) (λ e. omega arith) (λ e. omega arith)
+      ∙ wide-kept vs (headerAt a + 2) (c .bump) (headerAt a) (λ e. omega arith) (λ e. omega arith)
+      ∙ wide-stored ws (headerAt a) (c .size) (omega arith) in
+      let bump : getD (set us (headerAt a + 3) (c .head)) (headerAt a + 2) 0 ≡ c .bump =
+      getD-set-other us (headerAt a + 3) (headerAt a + 2) (c .head) 0 (λ e. omega arith) ∙ getD-set-same vs (headerAt a + 2) (c .bump) 0 (omega (arith, long)) in
+      let head : getD (set us (headerAt a + 3) (c .head)) (headerAt a + 3) 0 ≡ c .head = getD-set-same us (headerAt a + 3) (c .head) 0 (omega (arith, long′)) in
+      λ ι. record { size = size ι; bump = bump ι; head = head ι }

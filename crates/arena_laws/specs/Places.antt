@@ -12,8 +12,8 @@ use Rattle.words.specs.Tests.{and-l, and-r}
 use borrow.Author.Tests.{leb-true, le-leb}
 use Rattle.node_allocator.specs.declared.Arena.{Arena}
 use Rattle.node_allocator.specs.declared.Arena.the-variants.{Nodes, Values}
-use Rattle.node_allocator.specs.declared.Field.{Field}
-use Rattle.node_allocator.specs.declared.Field.the-variants.{Left, Right, Parent, Value}
+use Rattle.node_allocator.specs.declared.Register.{Register}
+use Rattle.node_allocator.specs.declared.Register.the-variants.{Left, Right, Parent, Value}
 use Rattle.node_allocator.specs.Layout.{headerAt, recordAt, capacityOf, widthOf, registerOf, inside}
 
 -- an index that names a record
@@ -34,7 +34,7 @@ pub record Lies (a : Arena) (words : ℕ) : Type 0 where
 
 -- ---- the header and the records
 
-pub register-small : (f : Field) → registerOf f < 4
+pub register-small : (f : Register) → registerOf f < 4
 register-small Left = omega arith
 register-small Right = omega arith
 register-small Parent = omega arith

@@ -12,21 +12,21 @@ use Rattle.records.specs.declared.Refusal.the-variants as no
 use Rattle.inspection.specs.declared.Opened.{Opened}
 use Rattle.inspection.specs.declared.Opened.the-variants.{Good, Shut}
 use Rattle.records.specs.Records.{headerOf}
-use Rattle.inspection.specs.Tests.{shapeOk, headerOk}
-use Rattle.inspection.specs.Opening.{openOf}
+use Rattle.inspection.specs.Tests.{shapeOk, topOk}
+use Rattle.inspection.specs.Opening.{openShaped, openOf}
 use Rattle.records.specs.Numbers.{refusalNumber}
 
 -- the three ways in which an opening goes
 pub data Opens (m n : ℕ) (ws : List ℕ) : Type 0 where
   misshapen : shapeOk m n (length ws) ≡ false → openOf m n ws ≡ Shut no.Shape → Opens m n ws
-  unsound : shapeOk m n (length ws) ≡ true → headerOk m n (headerOf n ws) ≡ false → openOf m n ws ≡ Shut no.Damaged → Opens m n ws
-  sound : (h : Header) → shapeOk m n (length ws) ≡ true → headerOk m n (headerOf n ws) ≡ true → openOf m n ws ≡ Good h → Opens m n ws
+  unsound : shapeOk m n (length ws) ≡ true → topOk m n ws ≡ false → openOf m n ws ≡ Shut no.Damaged → Opens m n ws
+  sound : (h : Header) → shapeOk m n (length ws) ≡ true → topOk m n ws ≡ true → openOf m n ws ≡ Good h → Opens m n ws
 
 pub opens : (m n : ℕ) (ws : List ℕ) → Opens m n ws
-unfolding openOf
-opens m n ws = go (shapeOk m n (length ws)) (headerOk m n (headerOf n ws)) refl refl
+unfolding openOf openShaped
+opens m n ws = go (shapeOk m n (length ws)) (topOk m n ws) refl refl
   where
-    go : (a b : Bool) → shapeOk m n (length ws) ≡ a → headerOk m n (headerOf n ws) ≡ b → Opens m n ws
+    go : (a b : Bool) → shapeOk m n (length ws) ≡ a → topOk m n ws ≡ b → Opens m n ws
     go false b p q = misshapen p (rw p)
     go true false p q = unsound p q (rw (p, q))
     go true true p q = sound (headerOf n ws) p q (rw (p, q))
@@ -50,12 +50,12 @@ module _ (f : Opened → ℕ) (shut : (r : Refusal) → f (Shut r) ≡ refusalNu
 
   -- 2 exactly if the header fails in a right shape, or the opened image answers it
   pub damage-exactly : (f (openOf m n ws) ≡ 2)
-      ↔ (((shapeOk m n (length ws) ≡ true) × (headerOk m n (headerOf n ws) ≡ false)) ⊎ ((h : Header) × (openOf m n ws ≡ Good h) × (f (Good h) ≡ 2)))
+      ↔ (((shapeOk m n (length ws) ≡ true) × (topOk m n ws ≡ false)) ⊎ ((h : Header) × (openOf m n ws ≡ Good h) × (f (Good h) ≡ 2)))
   unfolding refusalNumber
   damage-exactly = (λ e. only (opens m n ws) e, λ p. when (opens m n ws) p)
     where
       Cause : Type 0
-      Cause = ((shapeOk m n (length ws) ≡ true) × (headerOk m n (headerOf n ws) ≡ false)) ⊎ ((h : Header) × (openOf m n ws ≡ Good h) × (f (Good h) ≡ 2))
+      Cause = ((shapeOk m n (length ws) ≡ true) × (topOk m n ws ≡ false)) ⊎ ((h : Header) × (openOf m n ws ≡ Good h) × (f (Good h) ≡ 2))
 
       only : Opens m n ws → f (openOf m n ws) ≡ 2 → Cause
       only (misshapen p q) e = let z : _≡_ {A = ℕ} 1 2 = sym (shut no.Shape) ∙ sym (ap f q) ∙ e in absurd (omega arith)

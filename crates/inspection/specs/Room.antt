@@ -8,7 +8,7 @@ use lib.ListN.{length}
 use lib.Dec.{eqb, leb, ltb}
 use borrow.Author.Tests.{leb-true, ltb-true, eqb-true, eq-eqb}
 use Rattle.words.specs.Tests.{and-l, and-r}
-use Rattle.words.specs.Words.{words}
+use Rattle.words.specs.Words.{words, words-length}
 use Rattle.node_allocator.specs.declared.Counts.{Counts}
 use Rattle.records.specs.declared.Header.{Header}
 use Rattle.records.specs.declared.Refusal.{Refusal}
@@ -16,10 +16,10 @@ use Rattle.inspection.specs.declared.Opened.{Opened}
 use Rattle.inspection.specs.declared.Opened.the-variants.{Good, Shut}
 use Rattle.records.specs.Layout.{imageOf, imageLength, mostValues, mostNodes}
 use Rattle.records.specs.Records.{headerOf}
-use Rattle.inspection.specs.Tests.{shapeOk, arenaOk, headerOk, usedNode}
-use Rattle.inspection.specs.Opening.{openOf}
+use Rattle.inspection.specs.Tests.{shapeOk, arenaOk, headerOk, frontOk, spareOk, topOk, usedNode}
+use Rattle.inspection.specs.Opening.{openShaped, openOf}
 
--- the shape: M in 1..4096, N in 2M..8192, and the word count
+-- the shape: M and N within their limits, and the word count
 pub record Shaped (m n count : ℕ) : Type 0 where
   pub some : 1 ≤ m
   pub most : m ≤ mostValues
@@ -47,9 +47,9 @@ opened true false g h r s e = absurd (never-good e)
 opened false b g h r s e = absurd (never-good e)
 
 module _ (m n : ℕ) (ws : List ℕ) (h : Header) (good : openOf m n ws ≡ Good h) where
-  parts : (shapeOk m n (length ws) ≡ true) × (headerOk m n (headerOf n ws) ≡ true) × (headerOf n ws ≡ h)
-  unfolding openOf
-  parts = opened (shapeOk m n (length ws)) (headerOk m n (headerOf n ws)) (headerOf n ws) h _ _ good
+  parts : (shapeOk m n (length ws) ≡ true) × (topOk m n ws ≡ true) × (headerOf n ws ≡ h)
+  unfolding openOf openShaped
+  parts = opened (shapeOk m n (length ws)) (topOk m n ws) (headerOf n ws) h _ _ good
 
   pub open-shaped : Shaped m n (length ws)
   open-shaped = shaped m n (length ws) (parts .0)
@@ -58,7 +58,13 @@ module _ (m n : ℕ) (ws : List ℕ) (h : Header) (good : openOf m n ws ≡ Good
   open-header = parts .2
 
   pub open-passed : headerOk m n h ≡ true
-  open-passed = rw (sym (parts .2)) (parts .1)
+  unfolding topOk
+  open-passed = rw (sym (parts .2)) (and-r (frontOk ws && spareOk ws) (headerOk m n (headerOf n ws)) (parts .1))
+
+-- an image of the right shape whose header passes is opened
+pub shaped-opens : (m n : ℕ) (ws : List ℕ) (h : Header) → shapeOk m n (length ws) ≡ true → openShaped m n ws ≡ Good h → openOf m n ws ≡ Good h
+unfolding openOf
+shaped-opens m n ws h s e = rw s e
 
 -- the bumps of a header that passes
 pub node-bump : (m n : ℕ) (h : Header) → headerOk m n h ≡ true → h .nodes .bump ≤ n + 1
@@ -116,3 +122,14 @@ shaped-whole m n bytes e = go (eqb (length bytes % 4) 0) refl (shaped m n _ e .w
 
 pub opened-whole : (m n : ℕ) (bytes : List ℕ) (h : Header) → openOf m n (imageOf bytes) ≡ Good h → length bytes % 4 ≡ 0
 opened-whole m n bytes h e = shaped-whole m n bytes (parts m n (imageOf bytes) h e .0)
+
+-- ---- the buffer of an image in bytes
+
+pub shaped-bytes : (m n : ℕ) (bytes : List ℕ) → shapeOk m n (length (imageOf bytes)) ≡ true → length bytes ≡ 48 * n + 32 * m + 48
+shaped-bytes m n bytes e =
+    let whole = shaped-whole m n bytes e in
+    let same : length (words bytes) ≡ imageLength m n = ap length (sym (image-words m n bytes e)) ∙ shaped m n _ e .words in
+    omega (arith, words-length bytes)
+
+pub opened-bytes : (m n : ℕ) (bytes : List ℕ) (h : Header) → openOf m n (imageOf bytes) ≡ Good h → length bytes ≡ 48 * n + 32 * m + 48
+opened-bytes m n bytes h e = shaped-bytes m n bytes (parts m n (imageOf bytes) h e .0)

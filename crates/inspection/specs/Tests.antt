@@ -1,5 +1,4 @@
--- Document 01, "Tests of a record", a definition for each of its paragraphs and in its order. Bumps and heads are counted as document 01 counts them: a range a..b
--- has both its ends.
+-- The tests of a record: rules T1 to T14, a definition for each and in their order. A range a..b has both its ends.
 use mathlib.Core.Bool.{Bool, _&&_, _||_, not, true, false, cond, Bool·beq}
 use mathlib.Core.List.{List}
 use Prim.Native.Nat.{ℕ, _+_, _-_, _*_}
@@ -9,10 +8,10 @@ use Rattle.node_allocator.specs.Steps.{linkOk}
 use Rattle.records.specs.declared.Header.{Header}
 use Rattle.records.specs.declared.Node.{Node}
 use Rattle.records.specs.declared.ValueRecord.{ValueRecord}
-use Rattle.records.specs.Records.{nodeOf}
+use Rattle.records.specs.Records.{headerOf, frontOf, spareOf, nodeOf, paddingOf, valueRecordOf}
 use Rattle.records.specs.Layout.{mostValues, mostNodes, imageLength}
 
--- M is 1 to 4,096, N is 2M to 8,192, and the image has as many words as they ask for
+-- M and N lie within their limits, and the image has as many words as they ask for
 abbrev pub shapeOk : ℕ → ℕ → ℕ → Bool
 shapeOk m n count = leb 1 m && leb m mostValues && leb (2 * m) n && leb n mostNodes && eqb count (imageLength m n)
 
@@ -36,10 +35,20 @@ countsOk m h =
     && eqb (h .root .0) (cond (eqb (h .values .size) 0) 0 1)
     && (not (eqb (h .values .size) 0) || eqb (h .nodes .head) 1)
 
--- padding zero, the counts, and both arenas
+-- the counts, and both arenas
 unfoldable pub headerOk : ℕ → ℕ → Header → Bool
-headerOk m n h =
-    eqb (h .padding0) 0 && eqb (h .padding1) 0 && countsOk m h && arenaOk (h .nodes) n && arenaOk (h .values) m
+headerOk m n h = countsOk m h && arenaOk (h .nodes) n && arenaOk (h .values) m
+
+-- padding zero: words 0 and 1, and word 3
+abbrev pub frontOk : List ℕ → Bool
+frontOk ws = eqb (frontOf ws) 0
+
+abbrev pub spareOk : List ℕ → Bool
+spareOk ws = eqb (spareOf ws) 0
+
+-- the header of an image: its padding, and what it says
+unfoldable pub topOk : ℕ → ℕ → List ℕ → Bool
+topOk m n ws = (frontOk ws && spareOk ws) && headerOk m n (headerOf n ws)
 
 -- ---- Visited node
 
@@ -47,62 +56,65 @@ headerOk m n h =
 abbrev pub usedNode : Header → ℕ → Bool
 usedNode h i = leb 1 i && ltb i (h .nodes .bump)
 
--- Value in 1..value bump-1, Left and Right 0, prefix 128
-abbrev pub leafForm : Header → Node → Bool
-leafForm h x =
-    leb 1 (x .value .0)
-    && ltb (x .value .0) (h .values .bump)
-    && eqb (x .left .0) 0
-    && eqb (x .right .0) 0
-    && eqb (x .prefix) 128
+-- padding zero
+unfoldable pub paddingOk : List ℕ → ℕ → Bool
+paddingOk ws i = eqb (paddingOf ws i) 0
 
--- Value 0, Left and Right nonzero and different, prefix 0..127
+-- a leaf's form, as far as its node tells: Left and Right 0, prefix 128
+abbrev pub leafForm : Node → Bool
+leafForm x = eqb (x .left .0) 0 && eqb (x .right .0) 0 && eqb (x .prefix) 128
+
+-- a leaf: Value in 1..value bump-1
+abbrev pub isLeaf : Header → Node → Bool
+isLeaf h x = (leb 1 (x .value .0) && ltb (x .value .0) (h .values .bump)) && leafForm x
+
+-- two children, different, and a prefix of 0..127
 abbrev pub innerForm : Node → Bool
-innerForm x =
-    eqb (x .value .0) 0
-    && not (eqb (x .left .0) 0)
-    && not (eqb (x .right .0) 0)
-    && not (eqb (x .left .0) (x .right .0))
-    && ltb (x .prefix) 128
+innerForm x = not (eqb (x .left .0) 0) && not (eqb (x .right .0) 0) && not (eqb (x .left .0) (x .right .0)) && ltb (x .prefix) 128
 
--- what can be tested of a node by itself: index, padding zero, a leaf or an inner node
-unfoldable pub formOk : Header → ℕ → Node → Bool
-formOk h i x = usedNode h i && eqb (x .padding) 0 && (leafForm h x || innerForm x)
+-- an inner node: Value 0
+abbrev pub isFork : Node → Bool
+isFork x = eqb (x .value .0) 0 && innerForm x
 
--- Parent names the node we came from (0 at the root); the prefix length is at least `low`, which is one more than that node's (0 at the root); the root is a leaf
--- exactly if n is 1
-unfoldable pub nodeOk : Header → ℕ → ℕ → ℕ → Node → Bool
-nodeOk h i above low x =
-    formOk h i x
-    && eqb (x .parent .0) above
-    && leb low (x .prefix)
-    && (not (eqb above 0) || Bool·beq (not (eqb (x .value .0) 0)) (eqb (h .values .size) 1))
+-- what can be tested of a node by itself: index, padding, a leaf or an inner node
+unfoldable pub formOk : Header → List ℕ → ℕ → Bool
+formOk h ws i = usedNode h i && paddingOk ws i && (isLeaf h (nodeOf ws i) || isFork (nodeOf ws i))
+
+-- Parent names the node we came from (0 at the root); the prefix length is at least `low`, which is one more than that node's (0 at the root)
+unfoldable pub nodeOk : Header → List ℕ → ℕ → ℕ → ℕ → Bool
+nodeOk h ws i above low = formOk h ws i && eqb (nodeOf ws i .parent .0) above && leb low (nodeOf ws i .prefix)
+
+-- the root is a leaf exactly if n is 1
+unfoldable pub rootOk : Header → List ℕ → Bool
+rootOk h ws = usedNode h (h .root .0) && Bool·beq (not (eqb (nodeOf ws (h .root .0) .value .0) 0)) (eqb (h .values .size) 1)
 
 -- the children of node i, whose record is x, as visited nodes; a leaf has none
 unfoldable pub kidsOk : Header → List ℕ → ℕ → Node → Bool
 kidsOk h ws i x =
     cond (eqb (x .value .0) 0)
-    (cond (ltb (x .prefix) 128)
-    (nodeOk h (x .left .0) i (x .prefix + 1) (nodeOf ws (x .left .0)) && nodeOk h (x .right .0) i (x .prefix + 1) (nodeOf ws (x .right .0)))
-    false)
+    (cond (ltb (x .prefix) 128) (nodeOk h ws (x .left .0) i (x .prefix + 1) && nodeOk h ws (x .right .0) i (x .prefix + 1)) false)
     true
 
--- ---- Value record of a leaf: four zero registers
+-- ---- Value record of a leaf, the record's own index and the leaf's: four zero registers
 
-abbrev pub liveValue : ValueRecord → Bool
-liveValue r = eqb (r .register0) 0 && eqb (r .register1) 0 && eqb (r .register2) 0 && eqb (r .register3) 0
+unfoldable pub liveValue : ℕ → List ℕ → ℕ → ℕ → Bool
+liveValue n ws leaf j =
+    eqb (valueRecordOf n ws j .register0) 0
+    && eqb (valueRecordOf n ws j .register1) 0
+    && eqb (valueRecordOf n ws j .register2) 0
+    && eqb (valueRecordOf n ws j .register3) 0
 
 -- ---- Free node, below bump: Value, Right and padding 0, Left in 1..bump and not itself, Parent below bump (0 for node 1), prefix at most 128
 
-unfoldable pub freeNode : Header → ℕ → Node → Bool
-freeNode h i x =
-    eqb (x .value .0) 0
+unfoldable pub freeNode : Header → List ℕ → ℕ → Node → Bool
+freeNode h ws i x =
+    paddingOk ws i
+    && (eqb (x .value .0) 0
     && eqb (x .right .0) 0
-    && eqb (x .padding) 0
     && linkOk (h .nodes .bump) i (x .left .0)
     && ltb (x .parent .0) (h .nodes .bump)
     && (not (eqb i 1) || eqb (x .parent .0) 0)
-    && leb (x .prefix) 128
+    && leb (x .prefix) 128)
 
 -- Free value records: register 0 as Left, the others 0. At or above bump a record is never used: `neverUsed` of `node_allocator`.
 unfoldable pub freeValue : Header → ℕ → ValueRecord → Bool

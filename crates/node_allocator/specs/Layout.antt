@@ -6,8 +6,8 @@ use native.Mathlib.Omega.{arith}
 use lib.Dec.{leb}
 use Rattle.node_allocator.specs.declared.Arena.{Arena}
 use Rattle.node_allocator.specs.declared.Arena.the-variants.{Nodes, Values}
-use Rattle.node_allocator.specs.declared.Field.{Field}
-use Rattle.node_allocator.specs.declared.Field.the-variants.{Left, Right, Parent, Value}
+use Rattle.node_allocator.specs.declared.Register.{Register}
+use Rattle.node_allocator.specs.declared.Register.the-variants.{Left, Right, Parent, Value}
 
 -- the first word of node i, of value record j behind n nodes, and of the values' header
 abbrev pub nodeAt : ℕ → ℕ
@@ -43,7 +43,7 @@ width-most (Nodes n) = omega arith
 width-most (Values n m) = omega arith
 
 -- the four registers stand first in a record
-abbrev pub registerOf : Field → ℕ
+abbrev pub registerOf : Register → ℕ
 registerOf Left = 0
 registerOf Right = 1
 registerOf Parent = 2

@@ -6,10 +6,11 @@
 // keeps those of nodes and of values apart.
 ghost use mathlib.Core.Path.{_≡_};
 ghost use Prim.Native.Nat.{_+_, _*_, _<_, _≤_};
+ghost use lib.ListN.{length};
 ghost use Rattle.words.specs.Words.{words};
-ghost use Rattle.node_allocator.specs.Layout.{headerAt, recordAt, capacityOf, widthOf, registerOf, inside};
-ghost use Rattle.node_allocator.specs.Steps.{countsOf, setSize, setHead, getRegister, setRegister, clearRegister, connected, disconnected};
-ghost use Rattle.node_allocator.specs.Steps.{freshTaken, freedTaken, unlinked, addIndex, addImage, removeImage, neverUsed, linkOk};
+ghost use Rattle.node_allocator.specs.Layout.{nodeAt, valueAt, valuesAt, headerAt, recordAt, capacityOf, widthOf, registerOf, inside};
+ghost use Rattle.node_allocator.specs.Steps.{countsOf, setCounts, initialized, getRegister, setRegister, clearRegister, connected, disconnected};
+ghost use Rattle.node_allocator.specs.Steps.{taken, addCounts, addImage, freed, removeCounts, removeImage, neverUsed, linkOk};
 use std::num::wrapping_add_u32;
 use std::num::wrapping_add_u64;
 
@@ -20,7 +21,7 @@ pub enum Arena {
 }
 
 // The registers of a record, by the names that they have in a tree node. A value record uses register 0 alone, for the chain.
-pub enum Field {
+pub enum Register {
     Left,
     Right,
     Parent,
@@ -36,13 +37,35 @@ pub struct Counts {
 
 // ---- where an arena stands
 
+// The first word of node `i`; 0 for index 0, which names none.
+pub fn node_at(i: u32) -> usize
+    ensures { λ r. ⌜ (r ≡ nodeAt i) × (r < 68719476736) ⌝ }
+{
+    let end = 12 * (i as usize);
+    if end < 4 { 0 } else { end - 4 }
+}
+
+// The first word of the values' header, behind `n` nodes.
+pub fn values_at(n: u32) -> usize
+    ensures { λ r. ⌜ (r ≡ valuesAt n) × (r < 68719476736) ⌝ }
+{
+    12 * (n as usize) + 8
+}
+
+// The first word of value record `j` behind `n` nodes.
+pub fn value_at(n: u32, j: u32) -> usize
+    ensures { λ r. ⌜ (r ≡ valueAt n j) × (r < 137438953472) ⌝ }
+{
+    12 * (n as usize) + 8 * (j as usize) + 4
+}
+
 // The first of the four header words.
 fn header_at(a: Arena) -> usize
     ensures { λ r. ⌜ (r ≡ headerAt a) × (r < 68719476736) ⌝ }
 {
     match a {
         Arena::Nodes { nodes: _ } => 4,
-        Arena::Values { nodes, values: _ } => 12 * (nodes as usize) + 8,
+        Arena::Values { nodes, values: _ } => values_at(nodes),
     }
 }
 
@@ -51,11 +74,8 @@ pub fn record_at(a: Arena, i: u32) -> usize
     ensures { λ r. ⌜ (r ≡ recordAt a i) × (r < 137438953472) ⌝ }
 {
     match a {
-        Arena::Nodes { nodes: _ } => {
-            let end = 12 * (i as usize);
-            if end < 4 { 0 } else { end - 4 }
-        }
-        Arena::Values { nodes, values: _ } => 12 * (nodes as usize) + 8 * (i as usize) + 4,
+        Arena::Nodes { nodes: _ } => node_at(i),
+        Arena::Values { nodes, values: _ } => value_at(nodes, i),
     }
 }
 
@@ -82,14 +102,14 @@ pub fn width(a: Arena) -> usize
     }
 }
 
-fn register(f: Field) -> usize
+fn place_of(f: Register) -> usize
     ensures { λ r. ⌜ (r ≡ registerOf f) × (r < 4) ⌝ }
 {
     match f {
-        Field::Left => 0,
-        Field::Right => 1,
-        Field::Parent => 2,
-        Field::Value => 3,
+        Register::Left => 0,
+        Register::Right => 1,
+        Register::Parent => 2,
+        Register::Value => 3,
     }
 }
 
@@ -115,20 +135,32 @@ pub fn header(img: &[u8], a: Arena) -> Counts
 }
 
 // A register of a record; 0 where the index names none.
-pub fn get_register(img: &[u8], a: Arena, i: u32, f: Field) -> u32
+pub fn get_register(img: &[u8], a: Arena, i: u32, f: Register) -> u32
     ensures { λ r. ⌜ r ≡ getRegister a (words (now (img .entry))) i f ⌝ }
 {
     if is_inside(a, i) {
-        return words::word(img, record_at(a, i) + register(f));
+        return words::word(img, record_at(a, i) + place_of(f));
     }
     0
 }
 
-// Whether every word of a record is 0, as those of a record that was never used are.
+// Whether every word of a record is 0, as those of a record that was never used are. The caller knows that it lies inside.
 pub fn never_used(img: &[u8], a: Arena, i: u32) -> bool
+    requires { ⌜ recordAt a i + widthOf a ≤ length (words (now img)) ⌝ }
     ensures { λ r. ⌜ r ≡ neverUsed a (words (now (img .entry))) i ⌝ }
 {
-    words::zeros(img, record_at(a, i), width(a))
+    match a {
+        Arena::Nodes { nodes: _ } => {
+            let at = node_at(i);
+            words::four_zeros(img, at)
+                & words::four_zeros(img, at + 4)
+                & words::four_zeros(img, at + 8)
+        }
+        Arena::Values { nodes, values: _ } => {
+            let at = value_at(nodes, i);
+            words::four_zeros(img, at) & words::four_zeros(img, at + 4)
+        }
+    }
 }
 
 // Whether a free record's link may be `next`: a record, or the bump at the chain's end, and not the free record itself.
@@ -140,22 +172,22 @@ pub fn link_ok(bump: u32, i: u32, next: u32) -> bool
 
 // ---- registers
 
-pub fn set_register(img: &mut [u8], a: Arena, i: u32, v: u32, f: Field)
+pub fn set_register(img: &mut [u8], a: Arena, i: u32, v: u32, f: Register)
     ensures { λ _. ⌜ words (now (img .exit)) ≡ setRegister a (words (now (img .entry))) i v f ⌝ }
 {
     if is_inside(a, i) {
-        words::set_word(img, record_at(a, i) + register(f), v);
+        words::set_word(img, record_at(a, i) + place_of(f), v);
     }
 }
 
-pub fn clear_register(img: &mut [u8], a: Arena, i: u32, f: Field)
+pub fn clear_register(img: &mut [u8], a: Arena, i: u32, f: Register)
     ensures { λ _. ⌜ words (now (img .exit)) ≡ clearRegister a (words (now (img .entry))) i f ⌝ }
 {
     set_register(img, a, i, 0, f);
 }
 
 // Register `f` of `i` names `j`, and register `g` of `j` names `i`.
-pub fn connect(img: &mut [u8], a: Arena, i: u32, j: u32, f: Field, g: Field)
+pub fn connect(img: &mut [u8], a: Arena, i: u32, j: u32, f: Register, g: Register)
     ensures { λ _. ⌜ words (now (img .exit)) ≡ connected a (words (now (img .entry))) i j f g ⌝ }
 {
     set_register(img, a, i, j, f);
@@ -163,83 +195,96 @@ pub fn connect(img: &mut [u8], a: Arena, i: u32, j: u32, f: Field, g: Field)
 }
 
 // Register `f` of `i` and register `g` of `j` are cleared.
-pub fn disconnect(img: &mut [u8], a: Arena, i: u32, j: u32, f: Field, g: Field)
+pub fn disconnect(img: &mut [u8], a: Arena, i: u32, j: u32, f: Register, g: Register)
     ensures { λ _. ⌜ words (now (img .exit)) ≡ disconnected a (words (now (img .entry))) i j f g ⌝ }
 {
     clear_register(img, a, i, f);
     clear_register(img, a, j, g);
 }
 
-// ---- records taken and freed
+// ---- the header
 
-// The record at the bump is taken: bump and head move on.
-fn take_fresh(img: &mut [u8], a: Arena, i: u32)
-    ensures { λ _. ⌜ words (now (img .exit)) ≡ freshTaken a (words (now (img .entry))) i ⌝ }
+// Size, bump and head are these.
+fn set_counts(img: &mut [u8], a: Arena, c: Counts)
+    ensures { λ _. ⌜ words (now (img .exit)) ≡ setCounts a (words (now (img .entry))) c ⌝ }
 {
     let b = header_at(a);
-    let next = wrapping_add_u32(i, 1);
-    words::set_word(img, b + 2, next);
-    words::set_word(img, b + 3, next);
+    words::set_wide(img, b, c.size);
+    words::set_word(img, b + 2, c.bump);
+    words::set_word(img, b + 3, c.head);
 }
 
-// The first record of the chain is taken: the head is what it named, and it names none.
-fn take_freed(img: &mut [u8], a: Arena, i: u32)
-    ensures { λ _. ⌜ words (now (img .exit)) ≡ freedTaken a (words (now (img .entry))) i ⌝ }
+// Makes an empty arena of blank memory: bump and head are 1.
+pub fn initialize(img: &mut [u8], a: Arena)
+    ensures { λ _. ⌜ words (now (img .exit)) ≡ initialized a (words (now (img .entry))) ⌝ }
 {
-    let next = get_register(img, a, i, Field::Left);
-    let b = header_at(a);
-    words::set_word(img, b + 3, next);
-    clear_register(img, a, i, Field::Left);
+    let c = Counts {
+        size: 0,
+        bump: 1,
+        head: 1,
+    };
+    set_counts(img, a, c);
 }
 
-fn unlink(img: &mut [u8], a: Arena, i: u32, bump: u32)
-    ensures { λ _. ⌜ words (now (img .exit)) ≡ unlinked a (words (now (img .entry))) i bump ⌝ }
+// ---- records taken and freed: the caller knows the header, and is told what it becomes
+
+// The counts after the head's record is taken, whose register 0 names `next`: at the bump, bump and head move on; else the head is what it named.
+fn take(c: Counts, next: u32) -> Counts
+    ensures { λ r. ⌜ r ≡ taken c next ⌝ }
 {
-    if i == bump {
-        take_fresh(img, a, i);
-        return;
+    let size = wrapping_add_u64(c.size, 1);
+    if c.head == c.bump {
+        let up = wrapping_add_u32(c.head, 1);
+        return Counts {
+            size,
+            bump: up,
+            head: up,
+        };
     }
-    take_freed(img, a, i);
+    Counts {
+        size,
+        bump: c.bump,
+        head: next,
+    }
 }
 
-fn set_size(img: &mut [u8], a: Arena, n: u64)
-    ensures { λ _. ⌜ words (now (img .exit)) ≡ setSize a (words (now (img .entry))) n ⌝ }
+// Takes the head's record, last freed first, and answers the header afterwards; the header before was `c`, so that the record is `c.head`. Where
+// the head names none, as in a full buffer, nothing changes. What the record is to hold is the caller's to write.
+pub fn add_node(img: &mut [u8], a: Arena, c: Counts) -> Counts
+    ensures counts { λ r. ⌜ r ≡ addCounts a (words (now (img .entry))) c ⌝ }
+    ensures image { λ _. ⌜ words (now (img .exit)) ≡ addImage a (words (now (img .entry))) c ⌝ }
 {
-    let b = header_at(a);
-    words::set_wide(img, b, n);
+    if is_inside(a, c.head) {
+        let after = take(c, get_register(img, a, c.head, Register::Left));
+        clear_register(img, a, c.head, Register::Left);
+        set_counts(img, a, after);
+        return after;
+    }
+    c
 }
 
-// Takes the record at the head, last freed first, and answers its index. Where there is none, as in a full buffer, the answer is 0 and
-// nothing changes. What the record is to hold is the caller's to write.
-pub fn add_node(img: &mut [u8], a: Arena) -> u32
-    ensures index { λ r. ⌜ r ≡ addIndex a (words (now (img .entry))) ⌝ }
-    ensures image { λ _. ⌜ words (now (img .exit)) ≡ addImage a (words (now (img .entry))) ⌝ }
+// The counts after record `i` is freed.
+fn free(c: Counts, i: u32) -> Counts
+    ensures { λ r. ⌜ r ≡ freed c i ⌝ }
 {
-    let c = header(img, a);
-    let i = c.head;
+    Counts {
+        size: wrapping_add_u64(c.size, 18446744073709551615),
+        bump: c.bump,
+        head: i,
+    }
+}
+
+// Puts record `i` at the front of the chain and answers the header afterwards; the header before was `c`. Nothing changes where `i` names none. The
+// record's other words stay as they are.
+pub fn remove_node(img: &mut [u8], a: Arena, i: u32, c: Counts) -> Counts
+    ensures counts { λ r. ⌜ r ≡ removeCounts a c i ⌝ }
+    ensures image { λ _. ⌜ words (now (img .exit)) ≡ removeImage a (words (now (img .entry))) i c ⌝ }
+{
     if is_inside(a, i) {
-        unlink(img, a, i, c.bump);
-        set_size(img, a, wrapping_add_u64(c.size, 1));
-        return i;
+        let after = free(c, i);
+        set_register(img, a, i, c.head, Register::Left);
+        set_counts(img, a, after);
+        return after;
     }
-    0
-}
-
-fn set_head(img: &mut [u8], a: Arena, i: u32)
-    ensures { λ _. ⌜ words (now (img .exit)) ≡ setHead a (words (now (img .entry))) i ⌝ }
-{
-    let b = header_at(a);
-    words::set_word(img, b + 3, i);
-}
-
-// Puts record `i` at the front of the chain; nothing where `i` names none. Its other words stay as they are.
-pub fn remove_node(img: &mut [u8], a: Arena, i: u32)
-    ensures { λ _. ⌜ words (now (img .exit)) ≡ removeImage a (words (now (img .entry))) i ⌝ }
-{
-    if is_inside(a, i) {
-        let c = header(img, a);
-        set_register(img, a, i, c.head, Field::Left);
-        set_head(img, a, i);
-        set_size(img, a, wrapping_add_u64(c.size, 18446744073709551615));
-    }
+    c
 }

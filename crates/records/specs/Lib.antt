@@ -1,4 +1,4 @@
--- What the contracts of `records` cite: document 01's image, its records, their tests and the numbers of its refusals.
+-- What the contracts of `records` cite: the image, its records, how they are stored, and the numbers of refusals.
 pub mod Layout
 pub mod Records
 pub mod Writes

@@ -1,4 +1,4 @@
--- The records of an image, each as a whole: document 01, "The image, in 32-bit words", and its table.
+-- The records of an image, each as a whole, and the words that are padding: rules I3 to I8.
 use mathlib.Core.List.{List}
 use Prim.Native.Nat.{ℕ, _+_}
 use lib.ListN.{getD}
@@ -8,7 +8,6 @@ use Rattle.node_allocator.specs.Layout.{nodeAt, valueAt, valuesAt}
 use Rattle.node_allocator.specs.Steps.{countsAt}
 use Rattle.records.specs.declared.Header.{Header}
 use Rattle.records.specs.declared.Node.{Node}
-use Rattle.records.specs.declared.Content.{Content}
 use Rattle.records.specs.declared.Value.{Value}
 use Rattle.records.specs.declared.ValueRecord.{ValueRecord}
 
@@ -16,18 +15,18 @@ use Rattle.records.specs.declared.ValueRecord.{ValueRecord}
 abbrev pub keyAt : List ℕ → ℕ → Key
 keyAt ws k = record { high = wideAt ws (k + 2); low = wideAt ws k }
 
--- words 0 to 7, and the four words behind n nodes
+-- root, the four words of the nodes' header, and the four words behind n nodes
 unfoldable pub headerOf : ℕ → List ℕ → Header
-headerOf n ws =
-    record {
-      padding0 = wideAt ws 0;
-      root = record { 0 = getD ws 2 0 };
-      padding1 = getD ws 3 0;
-      nodes = countsAt ws 4;
-      values = countsAt ws (valuesAt n);
-    }
+headerOf n ws = record { root = record { 0 = getD ws 2 0 }; nodes = countsAt ws 4; values = countsAt ws (valuesAt n) }
 
--- Left, Right, Parent, Value, key (4), prefix length (2), padding (2)
+-- the header's padding: words 0 and 1, and word 3
+unfoldable pub frontOf : List ℕ → ℕ
+frontOf ws = wideAt ws 0
+
+unfoldable pub spareOf : List ℕ → ℕ
+spareOf ws = getD ws 3 0
+
+-- Left, Right, Parent, Value, key (4), prefix length (2)
 unfoldable pub nodeOf : List ℕ → ℕ → Node
 nodeOf ws i =
     record {
@@ -37,12 +36,20 @@ nodeOf ws i =
       value = record { 0 = getD ws (nodeAt i + 3) 0 };
       key = keyAt ws (nodeAt i + 4);
       prefix = wideAt ws (nodeAt i + 8);
-      padding = wideAt ws (nodeAt i + 10);
     }
 
--- what a node holds behind its registers
-abbrev pub contentOf : Node → Content
-contentOf x = record { key = x .key; prefix = x .prefix; padding = x .padding }
+-- a node's padding: its last two words
+unfoldable pub paddingOf : List ℕ → ℕ → ℕ
+paddingOf ws i = wideAt ws (nodeAt i + 10)
+
+-- a leaf's node, and an inner node's
+abbrev pub leafNode : ℕ → Key → ℕ → Node
+leafNode parent key v =
+    record { left = record { 0 = 0 }; right = record { 0 = 0 }; parent = record { 0 = parent }; value = record { 0 = v }; key = key; prefix = 128 }
+
+abbrev pub innerNode : ℕ → Key → ℕ → ℕ → ℕ → Node
+innerNode parent key prefix l r =
+    record { left = record { 0 = l }; right = record { 0 = r }; parent = record { 0 = parent }; value = record { 0 = 0 }; key = key; prefix = prefix }
 
 -- a value, first word first
 abbrev pub valueOf : List ℕ → ℕ → Value

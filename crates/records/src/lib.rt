@@ -1,6 +1,7 @@
-// The records of an image, as every call of the map reads and writes them: each as a whole. Nothing here follows a link, and nothing is tested; that is `inspection`.
-pub mod read; // read.rt: the header, a node, a value record
-pub mod write; // write.rt: a node's content, a value, the root
+// The records of an image, as every call of the map reads and writes them: each as a whole. Nothing here follows a link, and nothing is tested;
+// that is `inspection`.
+pub mod read; // read.rt: the header, a node, a value record, and the words that are padding
+pub mod write; // write.rt: a node's data, a value record, the root
 
 use keys::Key;
 use node_allocator::Counts;
@@ -18,14 +19,14 @@ pub struct Value {
     pub second: u64,
 }
 
+// What the header says of the map. Words 0, 1 and 3 are padding and are read by themselves.
 pub struct Header {
-    pub padding0: u64,
     pub root: NodeIndex,
-    pub padding1: u32,
     pub nodes: Counts,
     pub values: Counts,
 }
 
+// A node's data: its first ten words. The last two are padding and are read by themselves.
 pub struct Node {
     pub left: NodeIndex,
     pub right: NodeIndex,
@@ -33,14 +34,6 @@ pub struct Node {
     pub value: ValueIndex,
     pub key: Key,
     pub prefix: u64,
-    pub padding: u64,
-}
-
-// What a node holds behind its registers: the Rust's `CritbitNode`.
-pub struct Content {
-    pub key: Key,
-    pub prefix: u64,
-    pub padding: u64,
 }
 
 pub struct ValueRecord {
@@ -51,7 +44,7 @@ pub struct ValueRecord {
     pub value: Value,
 }
 
-// Why a call refuses. `numberOf` in specs/Numbers.antt gives document 01's number of each.
+// Why a call refuses. `refusalNumber` in specs/Numbers.antt gives the number of each.
 pub enum Refusal {
     Shape,
     Damaged,
@@ -91,7 +84,7 @@ pub enum Count {
     Refused(Refusal),
 }
 
-// Document 01's number of a refusal.
+// The number of a refusal.
 pub fn number(r: Refusal) -> u32
     ensures { λ k. ⌜ k ≡ refusalNumber r ⌝ }
 {

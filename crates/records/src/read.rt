@@ -1,4 +1,4 @@
-// The header, a node and a value record, each read as a whole; and a node's key by itself.
+// The header, a node and a value record, each read as a whole; and the words that are padding, each under its own name.
 use crate::Header;
 use crate::Node;
 use crate::NodeIndex;
@@ -7,13 +7,15 @@ use crate::ValueIndex;
 use crate::ValueRecord;
 use keys::Key;
 use node_allocator::Counts;
+use node_allocator::node_at;
+use node_allocator::value_at;
+use node_allocator::values_at;
 ghost use mathlib.Core.Path.{_≡_};
 ghost use Prim.Native.Nat.{_+_, _*_, _<_, _≤_};
 ghost use lib.ListN.{length};
 ghost use Rattle.words.specs.Words.{words};
-ghost use Rattle.node_allocator.specs.Layout.{nodeAt};
 ghost use Rattle.node_allocator.specs.Steps.{countsAt};
-ghost use Rattle.records.specs.Records.{keyAt, headerOf, nodeOf, valueOf, recordFrom, valueRecordOf};
+ghost use Rattle.records.specs.Records.{keyAt, headerOf, frontOf, spareOf, nodeOf, paddingOf, valueOf, recordFrom, valueRecordOf};
 
 fn key_in(img: &[u8], at: usize) -> Key
     requires { ⌜ at + 4 ≤ length (words (now img)) ⌝ }
@@ -41,14 +43,27 @@ pub fn header_in(img: &[u8], n: u32) -> Header
     requires { ⌜ 12 * n + 12 ≤ length (words (now img)) ⌝ }
     ensures { λ r. ⌜ r ≡ headerOf n (words (now (img .entry))) ⌝ }
 {
-    let at = 12 * (n as usize) + 8;
     Header {
-        padding0: words::wide_in(img, 0),
         root: NodeIndex(words::word_in(img, 2)),
-        padding1: words::word_in(img, 3),
         nodes: counts_in(img, 4),
-        values: counts_in(img, at),
+        values: counts_in(img, values_at(n)),
     }
+}
+
+// The header's padding in words 0 and 1.
+pub fn front_in(img: &[u8]) -> u64
+    requires { ⌜ 12 ≤ length (words (now img)) ⌝ }
+    ensures { λ r. ⌜ r ≡ frontOf (words (now (img .entry))) ⌝ }
+{
+    words::wide_in(img, 0)
+}
+
+// The header's padding in word 3.
+pub fn spare_in(img: &[u8]) -> u32
+    requires { ⌜ 12 ≤ length (words (now img)) ⌝ }
+    ensures { λ r. ⌜ r ≡ spareOf (words (now (img .entry))) ⌝ }
+{
+    words::word_in(img, 3)
 }
 
 // A node that is known to lie inside.
@@ -56,7 +71,7 @@ pub fn node_in(img: &[u8], i: NodeIndex) -> Node
     requires { ⌜ (1 ≤ i .0) × (12 * i .0 + 8 ≤ length (words (now img))) ⌝ }
     ensures { λ r. ⌜ r ≡ nodeOf (words (now (img .entry))) (i .0) ⌝ }
 {
-    let b = 12 * (i.0 as usize) - 4;
+    let b = node_at(i.0);
     Node {
         left: NodeIndex(words::word_in(img, b)),
         right: NodeIndex(words::word_in(img, b + 1)),
@@ -64,27 +79,15 @@ pub fn node_in(img: &[u8], i: NodeIndex) -> Node
         value: ValueIndex(words::word_in(img, b + 3)),
         key: key_in(img, b + 4),
         prefix: words::wide_in(img, b + 8),
-        padding: words::wide_in(img, b + 10),
     }
 }
 
-// The first word of a node.
-pub fn node_at(i: NodeIndex) -> usize
-    ensures { λ r. ⌜ (r ≡ nodeAt (i .0)) × (r < 68719476736) ⌝ }
+// The padding of a node that is known to lie inside.
+pub fn padding_in(img: &[u8], i: NodeIndex) -> u64
+    requires { ⌜ (1 ≤ i .0) × (12 * i .0 + 8 ≤ length (words (now img))) ⌝ }
+    ensures { λ r. ⌜ r ≡ paddingOf (words (now (img .entry))) (i .0) ⌝ }
 {
-    let end = 12 * (i.0 as usize);
-    if end < 4 { 0 } else { end - 4 }
-}
-
-// The key of a node, at any index; past the end each word is 0.
-pub fn key_of(img: &[u8], i: NodeIndex) -> Key
-    ensures { λ r. ⌜ r ≡ nodeOf (words (now (img .entry))) (i .0) .key ⌝ }
-{
-    let at = node_at(i) + 4;
-    Key {
-        high: words::wide(img, at + 2),
-        low: words::wide(img, at),
-    }
+    words::wide_in(img, node_at(i.0) + 10)
 }
 
 fn value_in(img: &[u8], at: usize) -> Value
@@ -101,7 +104,7 @@ fn value_in(img: &[u8], at: usize) -> Value
 pub fn value_record(img: &[u8], n: u32, j: ValueIndex) -> ValueRecord
     ensures { λ r. ⌜ r ≡ valueRecordOf n (words (now (img .entry))) (j .0) ⌝ }
 {
-    let b = 12 * (n as usize) + 8 * (j.0 as usize) + 4;
+    let b = value_at(n, j.0);
     if b + 8 <= words::count(img) {
         return ValueRecord {
             register0: words::word_in(img, b),

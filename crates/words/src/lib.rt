@@ -2,7 +2,7 @@
 //
 // Every contract but that of `put` speaks of the buffer's words, `words (now ..)`, and of nothing else; `put` is told a
 // byte's place and speaks of bytes. Past the last word a read gives 0 and a store does nothing, so that no caller carries a
-// bound; `put` and the two functions whose names end in `_in` test no place and ask the caller to know that it lies inside.
+// bound; `put`, `four_zeros` and the functions whose names end in `_in` test no place and ask the caller to know that it lies inside.
 ghost use mathlib.Core.Path.{_≡_};
 ghost use Prim.Native.Nat.{_+_, _*_, _<_, _≤_};
 ghost use lib.ListN.{length, getD, set, replicate};
@@ -112,6 +112,30 @@ pub fn set_wide(bytes: &mut [u8], at: usize, v: u64)
         set_word(bytes, at, (v % 4294967296) as u32);
         set_word(bytes, at + 1, (v / 4294967296) as u32);
     }
+}
+
+// The same at a place that the caller knows to lie inside: a word, and a 64-bit number.
+pub fn set_word_in(bytes: &mut [u8], at: usize, v: u32)
+    requires { ⌜ 4 * at + 4 ≤ length (now bytes) ⌝ }
+    ensures { λ _. ⌜ words (now (bytes .exit)) ≡ set (words (now (bytes .entry))) at v ⌝ }
+{
+    store(bytes, at, v);
+}
+
+pub fn set_wide_in(bytes: &mut [u8], at: usize, v: u64)
+    requires { ⌜ 4 * at + 8 ≤ length (now bytes) ⌝ }
+    ensures { λ _. ⌜ words (now (bytes .exit)) ≡ setWide (words (now (bytes .entry))) at v ⌝ }
+{
+    set_word_in(bytes, at, (v % 4294967296) as u32);
+    set_word_in(bytes, at + 1, (v / 4294967296) as u32);
+}
+
+// Whether the four words from a place that the caller knows to lie inside are all 0: two comparisons, and no loop.
+pub fn four_zeros(bytes: &[u8], at: usize) -> bool
+    requires { ⌜ at + 4 ≤ length (words (now bytes)) ⌝ }
+    ensures { λ r. ⌜ r ≡ zerosAt (words (now (bytes .entry))) at 4 ⌝ }
+{
+    (wide_in(bytes, at) == 0) & (wide_in(bytes, at + 2) == 0)
 }
 
 // Whether so many words from a place on are all 0; what lies past the end is.

@@ -10,8 +10,8 @@ is-inside-requires c κs = search needs
 record-at-requires : tie.Need-record-at-requires
 record-at-requires c κs = search needs
 
-register-requires : tie.Need-register-requires
-register-requires c κs = search needs
+place-of-requires : tie.Need-place-of-requires
+place-of-requires c κs = search needs
 
 add-word : tie.Need-add-word
 add-word c = search needs
@@ -21,7 +21,7 @@ word-requires c κs = search needs
 
 returns : tie.Need-returns
 unfolding getRegister
-returns c = simp (← c .before .before .before .before .is-inside .ensures, c .before .before .before .if1 .taken, ← c .before .before .record-at .ensures .0, ← c .before .register .ensures .0, c .word .ensures)
+returns c = simp (← c .before .before .before .before .is-inside .ensures, c .before .before .before .if1 .taken, ← c .before .before .record-at .ensures .0, ← c .before .place-of .ensures .0, c .word .ensures)
 
 returns-2 : tie.Need-returns-2
 unfolding getRegister
@@ -33,7 +33,7 @@ get-register-spec =
     (tie.spec
     is-inside-requires
     record-at-requires
-    register-requires
+    place-of-requires
     add-word
     word-requires
     returns

@@ -10,14 +10,8 @@ enum-told c = search needs
 enum-known-a : tie.Need-enum-known-a
 enum-known-a c = search needs
 
-cast-result : tie.Need-cast-result
-cast-result c = search needs
-
-mul-result : tie.Need-mul-result
-mul-result c = search needs
-
-add-result : tie.Need-add-result
-add-result c = search needs
+values-at-requires : tie.Need-values-at-requires
+values-at-requires c κs = search needs
 
 returns : tie.Need-returns
 unfolding headerAt
@@ -25,8 +19,7 @@ returns c = (simp (c .enum-told .given .1), search needs)
 
 returns-2 : tie.Need-returns-2
 unfolding headerAt
-returns-2 c = (simp (c .before .a .given .1), search needs)
+returns-2 c = (simp (c .before .before .a .given .1) (c .values-at .ensures .0), search needs)
 
 pub header-at-spec : {M : Type 1} → statement M
-header-at-spec =
-    tie.close (tie.spec enum-told enum-known-a cast-result mul-result add-result returns returns-2)
+header-at-spec = tie.close (tie.spec enum-told enum-known-a values-at-requires returns returns-2)

@@ -10,8 +10,8 @@ is-inside-requires c κs = search needs
 record-at-requires : tie.Need-record-at-requires
 record-at-requires c κs = search needs
 
-register-requires : tie.Need-register-requires
-register-requires c κs = search needs
+place-of-requires : tie.Need-place-of-requires
+place-of-requires c κs = search needs
 
 add-set-word : tie.Need-add-set-word
 add-set-word c = search needs
@@ -24,7 +24,7 @@ same-length c = search needs
 
 returns : tie.Need-returns
 unfolding setRegister
-returns c = simp (← c .before .before .before .before .before .before .before .is-inside .ensures, c .before .before .before .before .before .before .if1 .taken, ← c .before .before .before .before .record-at .ensures .0, ← c .before .before .before .register .ensures .0, c .before .before .set-word .ensures)
+returns c = simp (← c .before .before .before .before .before .before .before .is-inside .ensures, c .before .before .before .before .before .before .if1 .taken, ← c .before .before .before .before .record-at .ensures .0, ← c .before .before .before .place-of .ensures .0, c .before .before .set-word .ensures)
 
 returns-2 : tie.Need-returns-2
 unfolding setRegister
@@ -36,7 +36,7 @@ set-register-spec =
     (tie.spec
     is-inside-requires
     record-at-requires
-    register-requires
+    place-of-requires
     add-set-word
     set-word-requires
     same-length

@@ -1,17 +1,11 @@
--- `read::node_in` meets its contract. Assumes nothing.
+-- `records::read::node_in` meets its contract. Assumes nothing.
 use Rattle.records.specs.Records.{nodeOf}
 use borrow.Author.Needs.{needs}
 use Rattle.records.proofs.read.node_in.Statement.{statement}
 use Rattle.records.proofs.read.node_in.Tie as tie
 
-cast-b : tie.Need-cast-b
-cast-b c = search needs
-
-mul-b : tie.Need-mul-b
-mul-b c = search needs
-
-sub-b : tie.Need-sub-b
-sub-b c = search needs
+node-at-requires : tie.Need-node-at-requires
+node-at-requires c κs = search needs
 
 word-in-requires : tie.Need-word-in-requires
 word-in-requires c κs = search needs
@@ -46,12 +40,6 @@ add-wide-in c = search needs
 wide-in-requires : tie.Need-wide-in-requires
 wide-in-requires c κs = search needs
 
-add-wide-in-2 : tie.Need-add-wide-in-2
-add-wide-in-2 c = search needs
-
-wide-in-requires-2 : tie.Need-wide-in-requires-2
-wide-in-requires-2 c κs = search needs
-
 returns : tie.Need-returns
 unfolding nodeOf
 returns c = cc
@@ -60,9 +48,7 @@ pub node-in-spec : {M : Type 1} → statement M
 node-in-spec =
     tie.close
     (tie.spec
-    cast-b
-    mul-b
-    sub-b
+    node-at-requires
     word-in-requires
     add-word-in
     word-in-requires-2
@@ -74,6 +60,4 @@ node-in-spec =
     key-in-requires
     add-wide-in
     wide-in-requires
-    add-wide-in-2
-    wide-in-requires-2
     returns)

@@ -1,23 +1,11 @@
--- `read::value_record` meets its contract. Assumes nothing.
+-- `records::read::value_record` meets its contract. Assumes nothing.
 use Rattle.records.specs.Records.{recordFrom}
 use borrow.Author.Needs.{needs}
 use Rattle.records.proofs.read.value_record.Statement.{statement}
 use Rattle.records.proofs.read.value_record.Tie as tie
 
-mul-b : tie.Need-mul-b
-mul-b c = search needs
-
-cast-b : tie.Need-cast-b
-cast-b c = search needs
-
-mul-b-2 : tie.Need-mul-b-2
-mul-b-2 c = search needs
-
-add-b : tie.Need-add-b
-add-b c = search needs
-
-add-b-2 : tie.Need-add-b-2
-add-b-2 c = search needs
+value-at-requires : tie.Need-value-at-requires
+value-at-requires c κs = search needs
 
 add-if1 : tie.Need-add-if1
 add-if1 c = search needs
@@ -60,17 +48,13 @@ value-record-past-requires : tie.Need-value-record-past-requires
 value-record-past-requires c κs = search needs
 
 returns-2 : tie.Need-returns-2
-returns-2 c = search needs
+returns-2 c = cc
 
 pub value-record-spec : {M : Type 1} → statement M
 value-record-spec =
     tie.close
     (tie.spec
-    mul-b
-    cast-b
-    mul-b-2
-    add-b
-    add-b-2
+    value-at-requires
     add-if1
     count-requires
     word-in-requires

@@ -1,4 +1,7 @@
--- `write::set_value` meets its contract: nothing is stored where the index names no value record. Assumes nothing.
+-- `records::write::set_value` meets its contract. Assumes nothing.
+use mathlib.Core.Path.{sym, _∙_}
+use native.Mathlib.Omega.{arith}
+use Rattle.node_allocator.specs.Room.{value-inside}
 use Rattle.records.specs.Writes.{setValue}
 use borrow.Author.Needs.{needs}
 use Rattle.records.proofs.write.set_value.Statement.{statement}
@@ -7,11 +10,11 @@ use Rattle.records.proofs.write.set_value.Tie as tie
 is-inside-requires : tie.Need-is-inside-requires
 is-inside-requires c κs = search needs
 
-record-at-requires : tie.Need-record-at-requires
-record-at-requires c κs = search needs
+value-at-requires : tie.Need-value-at-requires
+value-at-requires c κs = search needs
 
 set-value-at-requires : tie.Need-set-value-at-requires
-set-value-at-requires c κs = search needs
+set-value-at-requires c κs = let named = value-inside (c .before .before .before .before .before .args .n) (c .before .before .before .before .before .args .m) (c .before .before .before .before .before .args .j .0) (sym (c .before .before .before .is-inside .ensures) ∙ c .before .before .if1 .taken) in omega (arith, named .0, named .1, c .value-at .ensures .0, c .before .before .before .before .before .pre)
 
 same-length : tie.Need-same-length
 same-length c = search needs
@@ -29,7 +32,7 @@ set-value-spec =
     tie.close
     (tie.spec
     is-inside-requires
-    record-at-requires
+    value-at-requires
     set-value-at-requires
     same-length
     returns
