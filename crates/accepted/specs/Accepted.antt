@@ -11,7 +11,7 @@ use Rattle.records.specs.declared.Header.{Header}
 use Rattle.records.specs.declared.Value.{Value}
 use Rattle.records.specs.Records.{headerOf, nodeOf, valueRecordOf}
 use Rattle.inspection.specs.Room.{Shaped}
-use Rattle.trees.specs.Lists.{All}
+use Rattle.lists.specs.Lists.{All}
 use Rattle.trees.specs.Tree.{Tree, leaf, inner, top, entries}
 use Rattle.trees.specs.Map.{Map, listOf, OrderedMap}
 use Rattle.trees.specs.Values.{Numbered}

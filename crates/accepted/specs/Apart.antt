@@ -10,7 +10,7 @@ use Rattle.records.specs.declared.Header.{Header}
 use Rattle.records.specs.declared.Node.{Node}
 use Rattle.records.specs.declared.ValueRecord.{ValueRecord}
 use Rattle.records.specs.Records.{nodeOf, valueRecordOf}
-use Rattle.trees.specs.Lists.{All, all-map}
+use Rattle.lists.specs.Lists.{All, all-map}
 use Rattle.trees.specs.Tree.{Tree, leaf, inner, top}
 use Rattle.trees.specs.Nodes.{In}
 use Rattle.accepted.specs.Rules.{Holds, Live, FreeNode, FreeValue, Chain}

@@ -10,8 +10,8 @@ use Rattle.records.specs.declared.Header.{Header}
 use Rattle.records.specs.declared.Node.{Node}
 use Rattle.records.specs.declared.ValueRecord.{ValueRecord}
 use Rattle.records.specs.Records.{nodeOf, valueRecordOf}
+use Rattle.lists.specs.Lists.{All}
 use Rattle.trees.specs.Tree.{Tree, leaf, inner, top}
-use Rattle.trees.specs.Lists.{All}
 use Rattle.trees.specs.Nodes.{In}
 use Rattle.record_views.specs.Nodes.{withField}
 use Rattle.accepted.specs.Rules.{Holds, Chain}

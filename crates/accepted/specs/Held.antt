@@ -14,7 +14,7 @@ use Rattle.records.specs.declared.Header.{Header}
 use Rattle.records.specs.declared.Node.{Node}
 use Rattle.records.specs.Records.{nodeOf}
 use Rattle.inspection.specs.Tests.{usedNode, leafForm, innerForm, formOk, nodeOk, kidsOk}
-use Rattle.trees.specs.Lists.{All, all-append}
+use Rattle.lists.specs.Lists.{All, all-append}
 use Rattle.trees.specs.Tree.{Tree, leaf, inner, top, entries}
 use Rattle.trees.specs.Map.{Map, listOf}
 use Rattle.trees.specs.Nodes.{In, in-top}

@@ -26,7 +26,7 @@ use Rattle.full_check.specs.Walk.{Walk, walkOf}
 use Rattle.full_check.specs.Chains.{nodesUnused, valuesUnused}
 use Rattle.full_check.specs.Check.{unmarked, rootWalk, treeOk, recordsOk, checkOf}
 use Rattle.full_check.specs.Promises.{numbers}
-use Rattle.trees.specs.Lists.{All, all-append}
+use Rattle.lists.specs.Lists.{All, all-append}
 use Rattle.trees.specs.Tree.{Tree, leaf, inner, top, entries}
 use Rattle.trees.specs.Paths.{depth-bound}
 use Rattle.trees.specs.Map.{Map, listOf, OrderedMap}

@@ -8,7 +8,7 @@ use native.Mathlib.Decide.{ℕ-discrete}
 use lib.ListN.{length, getD, set, length-set}
 use lib.Seq.{getD-set-same, getD-set-other}
 use Rattle.full_check.specs.Check.{unmarked}
-use Rattle.trees.specs.Lists.{All, Pairs}
+use Rattle.lists.specs.Lists.{All, Pairs}
 use Rattle.trees.specs.Values.{Entry, Unlike}
 
 -- the marks after so many entries

@@ -10,7 +10,7 @@ use Rattle.keys.specs.declared.Key.{Key}
 use Rattle.records.specs.declared.Header.{Header}
 use Rattle.records.specs.Records.{nodeOf, valueRecordOf}
 use Rattle.full_check.specs.Walk.{Walk, visitOk, leafWalk, joined, walkOf}
-use Rattle.trees.specs.Lists.{All, all-parts}
+use Rattle.lists.specs.Lists.{All, all-parts}
 use Rattle.trees.specs.Tree.{Tree, leaf, inner, top, keyOf, prefixOf, entries, Each, Side, Ordered}
 use Rattle.trees.specs.Paths.{depth}
 use Rattle.trees.specs.Values.{Entry}

@@ -7,7 +7,7 @@ use native.Mathlib.Omega.{arith}
 use native.Mathlib.Decide.{ℕ-discrete, decLe}
 use native.Mathlib.Nat.{lt-of-not-le}
 use lib.ListN.{length, length-append}
-use Rattle.trees.specs.Lists.{All, Pairs, Across, all-append, pairs-append}
+use Rattle.lists.specs.Lists.{All, Pairs, Across, all-append, pairs-append}
 
 -- x stands in the list
 abbrev pub Has : ℕ → List ℕ → Type 0

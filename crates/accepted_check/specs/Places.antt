@@ -11,7 +11,7 @@ use Rattle.node_allocator.specs.Layout.{nodeAt, valueAt}
 use Rattle.node_allocator.specs.declared.Counts.{Counts}
 use Rattle.records.specs.declared.Header.{Header}
 use Rattle.records.specs.Records.{headerOf, nodeOf, valueRecordOf}
-use Rattle.trees.specs.Lists.{All, all-map, all-append, all-mapped, pairs-append, pairs-mapped}
+use Rattle.lists.specs.Lists.{All, all-map, all-append, all-mapped, pairs-append, pairs-mapped}
 use Rattle.trees.specs.Tree.{Tree, leaf, inner, entries}
 use Rattle.trees.specs.Nodes.{In}
 use Rattle.trees.specs.Map.{Map, listOf}

@@ -15,7 +15,7 @@ use Rattle.records.specs.declared.Node.{Node}
 use Rattle.records.specs.Records.{nodeOf, valueRecordOf}
 use Rattle.inspection.specs.Tests.{leafForm, innerForm, formOk, nodeOk, liveValue}
 use Rattle.full_check.specs.Walk.{Walk, failed, visitOk, leafWalk, joined, walkOf}
-use Rattle.trees.specs.Lists.{all-append}
+use Rattle.lists.specs.Lists.{all-append}
 use Rattle.trees.specs.Tree.{Tree, leaf, inner, top, keyOf, prefixOf, entries, Ordered}
 use Rattle.trees.specs.Values.{Entry}
 use Rattle.record_views.specs.Small.{Small, content-fits}

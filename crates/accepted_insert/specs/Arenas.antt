@@ -13,7 +13,7 @@ use Rattle.records.specs.declared.Node.{Node}
 use Rattle.records.specs.declared.ValueRecord.{ValueRecord}
 use Rattle.records.specs.Records.{headerOf, nodeOf, valueRecordOf}
 use Rattle.inspection.specs.Room.{Shaped}
-use Rattle.trees.specs.Lists.{All, all-map}
+use Rattle.lists.specs.Lists.{All, all-map}
 use Rattle.record_views.specs.Small.{Small}
 use Rattle.accepted.specs.Rules.{ArenaRules, FreeNode, FreeValue, Chain}
 use Rattle.accepted.specs.Accepted.{Accepted}

@@ -23,21 +23,22 @@ use Rattle.insert.specs.declared.Plan.{Plan}
 use Rattle.insert.specs.declared.Plan.the-variants.{First, Replace, Split, Refused}
 use Rattle.insert.specs.Steps.{planImage, planPlace, openedPlan, insertOf, insertImage}
 use Rattle.lookup.specs.Get.{addrOf}
-use Rattle.trees.specs.Lists.{All}
+use Rattle.lists.specs.Lists.{All}
+use Rattle.lists.specs.Entries.{find, find-all, held, is-some, update, enter, enter-held}
+use Rattle.lists.specs.Machine.{FitsValue}
 use Rattle.trees.specs.Tree.{Tree, top, entries, Ordered, ascending}
-use Rattle.trees.specs.Lookup.{find, find-all, held, is-some, lookup, valueOf, lookup-find}
+use Rattle.trees.specs.Lookup.{lookup, valueOf, lookup-find}
 use Rattle.trees.specs.Insert.{put}
 use Rattle.trees.specs.Map.{Map, listOf, lookupIn, OrderedMap, map-ascending}
 use Rattle.trees.specs.Values.{Numbered}
 use Rattle.trees.specs.Changes.{target}
-use Rattle.record_views.specs.Small.{FitsValue}
 use Rattle.accepted.specs.Rules.{Holds, Live}
 use Rattle.accepted.specs.Held.{entries-used}
 use Rattle.accepted.specs.Accepted.{Accepted, HoldsMap}
 use Rattle.accepted_lookup.specs.Answers.{valued, listed, held-valued, valued-rising, placeFrom, addr-agrees}
-use Rattle.accepted_write.specs.Write.{update, value-accepted, value-tree, value-listed}
+use Rattle.accepted_write.specs.Write.{value-accepted, value-tree, value-listed}
 use Rattle.accepted_insert.specs.Planned.{arenas, sized, plan-full, plan-first, plan-replace, plan-split}
-use Rattle.accepted_insert.specs.Entered.{enter, enter-held, enter-either}
+use Rattle.accepted_insert.specs.Entered.{enter-either}
 use Rattle.accepted_insert.specs.First.{first-agrees}
 use Rattle.accepted_insert.specs.Splitting.{split-agrees}
 

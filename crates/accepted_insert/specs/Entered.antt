@@ -1,4 +1,4 @@
--- The list's insert, and the entries and counts of the tree's: an equal key gets the value, a new key its place in the ascending order.
+-- The list's insert in the two cases of the tree's, and the entries and counts of the tree's: an equal key gets the value, a new key its place in the ascending order.
 use mathlib.Core.Path.{_≡_, refl, sym, ap}
 use mathlib.Core.List.{List, [], _∷_}
 use mathlib.Core.Logic.{_≢_}
@@ -8,40 +8,22 @@ use Prim.Native.Nat.{ℕ, _+_, _≤_, _<_}
 use native.Mathlib.Omega.{arith}
 use native.Mathlib.Nat.{pos-of-ne-zero}
 use lib.Dec.{leb, ltb}
-use borrow.Author.Tests.{ltb-true, ne-eqb}
 use Rattle.keys.specs.declared.Key.{Key}
 use Rattle.keys.specs.Number.{numberOf}
 use Rattle.records.specs.declared.Value.{Value}
 use Rattle.records.specs.Records.{valueRecordOf}
-use Rattle.trees.specs.Keys.{shared, bit, same, chosen, unequal}
-use Rattle.trees.specs.Lists.{All, all-map, all-both}
-use Rattle.trees.specs.Tree.{Tree, leaf, inner, fork, top, keyOf, relabel, Rising}
-use Rattle.trees.specs.Lookup.{held, held-none, lookup}
+use Rattle.lists.specs.Lists.{All, all-both}
+use Rattle.lists.specs.Entries.{same, Rising, held, update, enter, enter-held}
+use Rattle.trees.specs.Keys.{shared, bit, chosen, unequal}
+use Rattle.trees.specs.Tree.{Tree, leaf, inner, fork, top, keyOf, relabel}
+use Rattle.trees.specs.Lookup.{lookup}
 use Rattle.trees.specs.Insert.{split, insert, put}
 use Rattle.accepted.specs.Accepted.{nodesIn, valueAtRecord}
 use Rattle.accepted_lookup.specs.Answers.{valued, valued-kept}
-use Rattle.accepted_write.specs.Write.{update}
-
-abbrev pub enter : {A : Type 0} → Key → A → List (Key × A) → List (Key × A)
-enter key v [] = (key, v) ∷ []
-enter key v (e ∷ es) = cond (same key (e .0)) ((e .0, v) ∷ es) (cond (ltb (numberOf key) (numberOf (e .0))) ((key, v) ∷ e ∷ es) (e ∷ enter key v es))
 
 -- ---- a key that is held, and one that is not
 
--- a held key gets the value, and nothing else changes
-pub enter-held : {A : Type 0} (key : Key) (v : A) (es : List (Key × A)) → Rising es → held key es ≡ true → enter key v es ≡ update key v es
-enter-held key v [] s e = let z : _≡_ {A = ℕ} 0 1 = cc in absurd (omega arith)
-enter-held key v (x ∷ es) s e = go (same key (x .0)) (ltb (numberOf key) (numberOf (x .0))) refl e (enter-held key v es (s .1))
-  where
-    go : (q l : Bool) → ltb (numberOf key) (numberOf (x .0)) ≡ l → cond q true (held key es) ≡ true → (held key es ≡ true → enter key v es ≡ update key v es)
-        → cond q ((x .0, v) ∷ es) (cond l ((key, v) ∷ x ∷ es) (x ∷ enter key v es)) ≡ cond q ((x .0, v) ∷ es) (x ∷ update key v es)
-    go true l t d f = refl
-    go false true t d f =
-        let less : numberOf key < numberOf (x .0) = ltb-true (numberOf key) (numberOf (x .0)) t in
-        absurd (unequal (held key es) d (held-none key es (all-map (λ y h. ne-eqb (numberOf key) (numberOf (y .0)) (λ q. omega arith)) es (s .0))))
-    go false false t d f = ap (λ l. x ∷ l) (f d)
-
--- a new key is put at its place
+-- a new key is put at its place; a held one is `enter-held` (crate `lists`, Entries)
 pub enter-new : {A : Type 0} (key : Key) (v : A) (es : List (Key × A)) → held key es ≡ false → enter key v es ≡ put key v es
 enter-new key v [] e = refl
 enter-new key v (x ∷ es) e = go (same key (x .0)) (ltb (numberOf key) (numberOf (x .0))) e (enter-new key v es)

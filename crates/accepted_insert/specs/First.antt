@@ -18,14 +18,16 @@ use Rattle.records.specs.declared.Value.{Value}
 use Rattle.records.specs.declared.ValueRecord.{ValueRecord}
 use Rattle.records.specs.Records.{headerOf, nodeOf, valueRecordOf}
 use Rattle.insert.specs.Steps.{leafAdded, firstImage}
-use Rattle.trees.specs.Lists.{All}
+use Rattle.lists.specs.Lists.{All}
+use Rattle.lists.specs.Entries.{enter}
+use Rattle.lists.specs.Machine.{FitsValue}
 use Rattle.trees.specs.Tree.{leaf, entries}
 use Rattle.trees.specs.Map.{Map, listOf, lookupIn}
 use Rattle.trees.specs.Values.{Numbered}
 use Rattle.record_views.specs.Nodes.{node-root}
 use Rattle.record_views.specs.Values.{value-root}
 use Rattle.record_views.specs.Header.{root-nodes, root-values}
-use Rattle.record_views.specs.Small.{FitsValue, small-set}
+use Rattle.record_views.specs.Small.{small-set}
 use Rattle.accepted.specs.Rules.{HeaderRules, Holds, Live, leafNode}
 use Rattle.accepted.specs.Accepted.{Accepted, HoldsMap, nodesIn}
 use Rattle.accepted_lookup.specs.Answers.{valued, listed}
@@ -33,7 +35,6 @@ use Rattle.accepted_insert.specs.Arenas.{behind, Arenas, nodes-kept, val
 use Rattle.accepted_insert.specs.Added.{nodes-are, values-are}
 use Rattle.accepted_insert.specs.Leaf.{LeafAdded, leaf-add}
 use Rattle.accepted_insert.specs.Planned.{arenas}
-use Rattle.accepted_insert.specs.Entered.{enter}
 use Rattle.accepted_insert.specs.Grown.{assembled, assembled-tree}
 
 -- ---- the root is set

@@ -9,7 +9,7 @@ use Rattle.keys.specs.declared.Key.{Key}
 use Rattle.records.specs.declared.Header.{Header}
 use Rattle.records.specs.declared.Node.{Node}
 use Rattle.records.specs.Records.{headerOf, nodeOf, valueRecordOf}
-use Rattle.trees.specs.Lists.{All, all-map, all-append}
+use Rattle.lists.specs.Lists.{All, all-map, all-append}
 use Rattle.trees.specs.Tree.{Tree, leaf, inner, top, keyOf, entries, Ordered}
 use Rattle.trees.specs.Nodes.{In, Child, in-top}
 use Rattle.trees.specs.Values.{Numbered}

@@ -12,8 +12,9 @@ use Rattle.keys.specs.declared.Key.{Key}
 use Rattle.node_allocator.specs.declared.Field.the-variants as field
 use Rattle.records.specs.declared.Header.{Header}
 use Rattle.records.specs.Records.{nodeOf}
-use Rattle.trees.specs.Keys.{shared, bit, same, Same, test-same, unequal}
-use Rattle.trees.specs.Lists.{All, all-map}
+use Rattle.lists.specs.Lists.{All, all-map}
+use Rattle.lists.specs.Entries.{same}
+use Rattle.trees.specs.Keys.{shared, bit, Same, test-same, unequal}
 use Rattle.trees.specs.Tree.{Tree, leaf, inner, fork, top, keyOf, prefixOf, relabel, Ordered}
 use Rattle.trees.specs.Nodes.{In, Child, in-top, is-top, in-child, top-relabel}
 use Rattle.trees.specs.Lookup.{lookup}

@@ -17,8 +17,8 @@ use Rattle.records.specs.declared.Value.{Value}
 use Rattle.records.specs.declared.ValueRecord.{ValueRecord}
 use Rattle.records.specs.Records.{headerOf, nodeOf, valueRecordOf}
 use Rattle.insert.specs.Steps.{contentFrom, leafTaken, valueTaken, leafAdded}
+use Rattle.lists.specs.Machine.{FitsValue}
 use Rattle.record_views.specs.Nodes.{withField, withContent, changed, changed-there, changed-other}
-use Rattle.record_views.specs.Small.{FitsValue}
 use Rattle.accepted.specs.Rules.{Live, leafNode}
 use Rattle.accepted_insert.specs.Arenas.{behind, addedTo, Used, used-still, bump-added, FreeNodeOf, nextNodeOf, FreeValueOf, nextValueOf, Arenas}
 use Rattle.accepted_insert.specs.Stored.{Step, used-after, register-step, content-step}

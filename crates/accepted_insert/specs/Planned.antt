@@ -18,10 +18,11 @@ use Rattle.inspection.specs.Opening.{openOf}
 use Rattle.insert.specs.declared.Plan.the-variants.{First, Replace, Split, Refused}
 use Rattle.insert.specs.Plan.{firstPlan, stopPlan, planOf}
 use Rattle.insert.specs.Steps.{openedPlan}
+use Rattle.lists.specs.Lists.{All}
+use Rattle.lists.specs.Entries.{find-all}
 use Rattle.trees.specs.Keys.{shared, bit}
-use Rattle.trees.specs.Lists.{All}
 use Rattle.trees.specs.Tree.{Tree, leaf, inner, top, entries, entries-some}
-use Rattle.trees.specs.Lookup.{find-all, lookup, valueOf, lookup-find}
+use Rattle.trees.specs.Lookup.{lookup, valueOf, lookup-find}
 use Rattle.trees.specs.Map.{Map, listOf, OrderedMap}
 use Rattle.trees.specs.Changes.{target}
 use Rattle.accepted.specs.Rules.{Holds, Live}

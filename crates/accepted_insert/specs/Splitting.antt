@@ -19,17 +19,18 @@ use Rattle.records.specs.declared.Value.{Value}
 use Rattle.records.specs.declared.ValueRecord.{ValueRecord}
 use Rattle.records.specs.Records.{headerOf, nodeOf, valueRecordOf}
 use Rattle.insert.specs.Steps.{leafAdded, duplicated, forkedImage, sharedOf, splitImage}
+use Rattle.lists.specs.Lists.{All, all-both}
+use Rattle.lists.specs.Entries.{find, is-some, enter}
+use Rattle.lists.specs.Machine.{FitsValue}
 use Rattle.trees.specs.Keys.{shared, bit, at-most}
-use Rattle.trees.specs.Lists.{All, all-both}
 use Rattle.trees.specs.Tree.{Tree, leaf, top, keyOf, entries, entries-some, Ordered}
 use Rattle.trees.specs.Nodes.{In, Child, in-top}
-use Rattle.trees.specs.Lookup.{lookup, find, is-some, valueOf, lookup-find}
+use Rattle.trees.specs.Lookup.{lookup, valueOf, lookup-find}
 use Rattle.trees.specs.Insert.{insert, put, ordered-insert, entries-insert, lookup-insert}
 use Rattle.trees.specs.Map.{Map, listOf, lookupIn, OrderedMap}
 use Rattle.trees.specs.Values.{Numbered, numbered-put, all-put}
 use Rattle.trees.specs.Changes.{target, in-target, top-insert}
 use Rattle.record_views.specs.Nodes.{withField}
-use Rattle.record_views.specs.Small.{FitsValue}
 use Rattle.accepted.specs.Rules.{HeaderRules, Holds, Live, leafNode, innerNode}
 use Rattle.accepted.specs.Accepted.{Accepted, HoldsMap}
 use Rattle.accepted_lookup.specs.Answers.{valued, listed, held-valued, nodes-entries}
@@ -40,7 +41,7 @@ use Rattle.accepted_insert.specs.Leaf.{LeafAdded, leaf-add, top-then}
 use Rattle.accepted_insert.specs.Forked.{Forked, node-fork}
 use Rattle.accepted_insert.specs.Holding.{in-used, SplitAt, holds-insert}
 use Rattle.accepted_insert.specs.Planned.{target-held, arenas, node-room}
-use Rattle.accepted_insert.specs.Entered.{enter, enter-new, valued-put, nodes-insert}
+use Rattle.accepted_insert.specs.Entered.{enter-new, valued-put, nodes-insert}
 use Rattle.accepted_insert.specs.Grown.{assembled, assembled-tree, free-nodes, not-next, tree-other, Kids, kids-of}
 
 module _ {m n : ℕ} {ws : List ℕ} (a : Accepted m n ws) (key : Key) (fits : Fits key) (v : Value) (fits-value : FitsValue v) (t : Tree) (is : a .tree ≡ some t) (miss : lookup key t ≡ none)

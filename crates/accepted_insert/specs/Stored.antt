@@ -18,7 +18,7 @@ use Rattle.records.specs.declared.Content.{Content}
 use Rattle.records.specs.Records.{headerOf, nodeOf, valueRecordOf}
 use Rattle.records.specs.Writes.{contentAt, setContent}
 use Rattle.insert.specs.Steps.{hung}
-use Rattle.trees.specs.Lists.{All, all-map, all-both}
+use Rattle.lists.specs.Lists.{All, all-map, all-both}
 use Rattle.record_views.specs.Nodes.{withField, withContent, changed, changed-other, content-others, node-register, node-content}
 use Rattle.record_views.specs.Values.{value-register, value-content}
 use Rattle.record_views.specs.Header.{header-same, register-away, content-away, content-length}

@@ -19,11 +19,12 @@ use Rattle.records.specs.declared.ValueRecord.{ValueRecord}
 use Rattle.records.specs.Records.{headerOf, nodeOf, recordFrom, valueRecordOf}
 use Rattle.records.specs.Writes.{setValue}
 use Rattle.insert.specs.Steps.{valueTaken}
-use Rattle.trees.specs.Lists.{All}
+use Rattle.lists.specs.Lists.{All}
+use Rattle.lists.specs.Machine.{FitsValue}
 use Rattle.record_views.specs.Nodes.{Same, changed, changed-there, changed-other, node-value-added, node-value-set}
 use Rattle.record_views.specs.Values.{withLink, withValue, values-lie, value-added, value-set, value-registers}
 use Rattle.record_views.specs.Header.{value-added-apart, value-away, value-beyond, value-length, header-same}
-use Rattle.record_views.specs.Small.{FitsValue, small-added, small-value}
+use Rattle.record_views.specs.Small.{small-added, small-value}
 use Rattle.accepted.specs.Rules.{FreeValue, Chain, Live}
 use Rattle.accepted_insert.specs.Arenas.{Part, behind, addedTo, Used, head-inside, part-added, used-head, bump-added, FreeValueOf, nextValueOf, Arenas, free-value-under, nodes-kept, values-kept, on-chain}
 use Rattle.accepted_insert.specs.Added.{nodes-are, values-are, counts-added, bump-same, TopKept, top-kept}

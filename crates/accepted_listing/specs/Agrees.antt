@@ -14,9 +14,10 @@ use Rattle.records.specs.declared.Entry.the-variants as entry
 use Rattle.listing.specs.declared.Position.{Position}
 use Rattle.listing.specs.Position.{madeOf}
 use Rattle.listing.specs.Step.{stepOf}
+use Rattle.lists.specs.Answers.{entryFrom}
 use Rattle.trees.specs.Walk.{taken, run}
 use Rattle.accepted.specs.Accepted.{Accepted}
-use Rattle.accepted_lookup.specs.Answers.{listed, entryFrom}
+use Rattle.accepted_lookup.specs.Answers.{listed}
 use Rattle.accepted_listing.specs.Once.{atFront, atBack, taken-all, map-constant}
 use Rattle.accepted_listing.specs.Related.{made-agrees}
 use Rattle.accepted_listing.specs.Moments.{Moment, moment-made, moment-gives, moment-stepped}

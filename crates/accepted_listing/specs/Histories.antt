@@ -15,14 +15,12 @@ use Rattle.lookup.specs.Get.{writeImage}
 use Rattle.listing.specs.declared.Position.{Position}
 use Rattle.listing.specs.Position.{madeOf}
 use Rattle.listing.specs.Step.{stepOf}
-use Rattle.trees.specs.Keys.{same}
-use Rattle.trees.specs.Ends.{endOf, restOf}
-use Rattle.trees.specs.Lookup.{find}
+use Rattle.lists.specs.Entries.{same, listEnd, restOf, find, update}
+use Rattle.lists.specs.Answers.{entryFrom}
+use Rattle.lists.specs.Machine.{FitsValue}
 use Rattle.trees.specs.Walk.{taken, run}
-use Rattle.record_views.specs.Small.{FitsValue}
 use Rattle.accepted.specs.Accepted.{Accepted}
-use Rattle.accepted_lookup.specs.Answers.{listed, entryFrom}
-use Rattle.accepted_write.specs.Write.{update}
+use Rattle.accepted_lookup.specs.Answers.{listed}
 use Rattle.accepted_listing.specs.Once.{atFront, atBack, left, taken-once, taken-all, left-length, no-elements, end-map, rest-map, map-constant}
 use Rattle.accepted_listing.specs.Segments.{Segment}
 use Rattle.accepted_listing.specs.Moments.{Moment, moment-made, moment-gives, moment-stepped, moment-written, moment-small, moment-segment, moment-value}
@@ -65,7 +63,7 @@ positionAfter (written key v ∷ moves) m n ws p = positionAfter moves m n (writ
 -- over the list: a step takes from what is left, and a write changes the value of its key where the key is left
 abbrev pub told : List Move → List (Key × Value) → List (Option (Key × Value))
 told [] left = []
-told (stepped back ∷ moves) left = endOf back left ∷ told moves (restOf back left)
+told (stepped back ∷ moves) left = listEnd back left ∷ told moves (restOf back left)
 told (written key v ∷ moves) left = told moves (update key v left)
 
 abbrev pub leftAfter : List Move → List (Key × Value) → List (Key × Value)
@@ -114,7 +112,7 @@ keysTold moves xs = map (Option·map (λ e. e .0)) (told moves xs)
 pub history-keys : (moves : List Move) (xs : List (Key × Value)) → keysTold moves xs ≡ run taken (map (λ e. e .0) xs) (sidesOf moves)
 history-keys [] xs = refl
 history-keys (stepped back ∷ moves) xs =
-    let here : Option·map (λ e. e .0) (endOf back xs) ≡ endOf back (keysIn xs) = sym (end-map (λ e. e .0) back xs) in
+    let here : Option·map (λ e. e .0) (listEnd back xs) ≡ listEnd back (keysIn xs) = sym (end-map (λ e. e .0) back xs) in
     let rest : keysTold moves (restOf back xs) ≡ run taken (restOf back (keysIn xs)) (sidesOf moves) =
     history-keys moves (restOf back xs) ∙ ap (λ (l : List Key). run taken l (sidesOf moves)) (sym (rest-map (λ e. e .0) back xs)) in
     λ ι. here ι ∷ rest ι
@@ -134,7 +132,7 @@ left-keys (written key v ∷ moves) xs = left-keys moves (update key v xs) ∙ a
 
 told-append : (moves more : List Move) (xs : List (Key × Value)) → told (moves ++ more) xs ≡ told moves xs ++ told more (leftAfter moves xs)
 told-append [] more xs = refl
-told-append (stepped back ∷ moves) more xs = ap (λ (l : List (Option (Key × Value))). endOf back xs ∷ l) (told-append moves more (restOf back xs))
+told-append (stepped back ∷ moves) more xs = ap (λ (l : List (Option (Key × Value))). listEnd back xs ∷ l) (told-append moves more (restOf back xs))
 told-append (written key v ∷ moves) more xs = told-append moves more (update key v xs)
 
 told-none : (moves : List Move) → told moves [] ≡ map (λ b. none) (sidesOf moves)
@@ -180,7 +178,7 @@ pub record Now {m n : ℕ} {ws : List ℕ} (a : Accepted m n ws) (moves : List M
   pub segment : Segment (leftAfter moves (listed a)) (listed image)
   -- a step at either end gives the entry at that end of what is left, or absent, and refuses for nothing else
   pub gives : (back : Bool)
-      → stepOf back m n (imageAfter moves m n ws) (positionAfter moves m n ws (madeOf m n ws .position)) .entry ≡ entryFrom (endOf back (leftAfter moves (listed a)))
+      → stepOf back m n (imageAfter moves m n ws) (positionAfter moves m n ws (madeOf m n ws .position)) .entry ≡ entryFrom (listEnd back (leftAfter moves (listed a)))
   -- the value that it gives is the one that the list holds for the key now
   pub current : (back : Bool) (key : Key) (v : Value)
       → stepOf back m n (imageAfter moves m n ws) (positionAfter moves m n ws (madeOf m n ws .position)) .entry ≡ entry.Is key v → find key (listed image) ≡ some v
@@ -212,7 +210,7 @@ now-agrees {m} {n} {ws} a moves f =
       segment = rw (x .same-list) (moment-segment x);
       gives = moment-gives x;
       current = λ back key v e. rw (x .same-list)
-          (moment-value x back key v (entry-given (endOf back (leftAfter moves (listed a))) key v (sym (moment-gives x back) ∙ e)));
+          (moment-value x back key v (entry-given (listEnd back (leftAfter moves (listed a))) key v (sym (moment-gives x back) ∙ e)));
       front-small = moment-small x .0;
       back-small = moment-small x .1;
     }

@@ -15,19 +15,17 @@ use Rattle.lookup.specs.Get.{writeImage}
 use Rattle.listing.specs.declared.Position.{Position}
 use Rattle.listing.specs.Position.{madeOf}
 use Rattle.listing.specs.Step.{stepOf}
-use Rattle.trees.specs.Keys.{same}
-use Rattle.trees.specs.Lists.{All, all-both}
-use Rattle.trees.specs.Ends.{endOf, restOf, all-end}
-use Rattle.trees.specs.Tree.{Rising}
-use Rattle.trees.specs.Lookup.{find}
+use Rattle.lists.specs.Lists.{All, all-both}
+use Rattle.lists.specs.Entries.{same, listEnd, restOf, Rising, find, update}
+use Rattle.lists.specs.Answers.{entryFrom}
+use Rattle.lists.specs.Machine.{FitsValue}
+use Rattle.trees.specs.Ends.{all-end}
 use Rattle.trees.specs.Map.{Map, listOf, map-ascending}
 use Rattle.trees.specs.Values.{Entry}
 use Rattle.trees.specs.Walk.{start, step, Stands, step-stands, start-stands}
 use Rattle.trees.specs.Walk as walk
-use Rattle.record_views.specs.Small.{FitsValue}
 use Rattle.accepted.specs.Accepted.{Accepted}
-use Rattle.accepted_lookup.specs.Answers.{valued, valued-rising, listed, entryFrom}
-use Rattle.accepted_write.specs.Write.{update}
+use Rattle.accepted_lookup.specs.Answers.{valued, valued-rising, listed}
 use Rattle.accepted_listing.specs.Related.{Related, counts-bound, valuedEntry, step-agrees, made-agrees}
 use Rattle.accepted_listing.specs.Once.{end-map, rest-map}
 use Rattle.accepted_listing.specs.Segments.{Segment, segment-whole, segment-rest, segment-all, segment-map}
@@ -72,11 +70,11 @@ module _ {m n : ℕ} {ws : List ℕ} {p : Position} {list left : List (Key × Va
   -- ---- a step
 
   -- the entry at the side's end of what is left is given, or absent if nothing is left
-  pub moment-gives : (back : Bool) → stepOf back m n ws p .entry ≡ entryFrom (endOf back left)
+  pub moment-gives : (back : Bool) → stepOf back m n ws p .entry ≡ entryFrom (listEnd back left)
   moment-gives back =
       step-agrees (x .image) back (x .place) p (x .related) .0
       ∙ ap (λ (o : Option Entry). entryFrom (Option·map (valuedEntry n ws) o)) (step-stands back (x .place) (x .mid) (x .stands) .0)
-      ∙ ap entryFrom (sym (end-map (valuedEntry n ws) back (x .mid)) ∙ ap (endOf back) (x .same-left))
+      ∙ ap entryFrom (sym (end-map (valuedEntry n ws) back (x .mid)) ∙ ap (listEnd back) (x .same-left))
 
   pub moment-stepped : (back : Bool) → Moment m n ws (stepOf back m n ws p .position) list (restOf back left)
   moment-stepped back =
@@ -120,7 +118,7 @@ module _ {m n : ℕ} {ws : List ℕ} {p : Position} {list left : List (Key × Va
       (subst (λ (l : List (Key × Value)). Segment (valued n ws (x .mid)) l) (x .same-list) (segment-map (valuedEntry n ws) (x .mid) (listOf (x .image .tree)) (x .segment)))
 
   -- the value that is given is the one that the list holds for the key at this moment
-  pub moment-value : (back : Bool) (key : Key) (v : Value) → endOf back left ≡ some (key, v) → find key list ≡ some v
+  pub moment-value : (back : Bool) (key : Key) (v : Value) → listEnd back left ≡ some (key, v) → find key list ≡ some v
   moment-value back key v e = all-end (λ y. find (y .0) list ≡ some (y .1)) back left (segment-all (λ y. find (y .0) list ≡ some (y .1)) left list moment-segment all) e
     where
       all : All (λ y. find (y .0) list ≡ some (y .1)) list

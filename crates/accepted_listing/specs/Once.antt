@@ -7,7 +7,8 @@ use mathlib.Core.Option.{Option, none, some, Option·map}
 use Prim.Native.Nat.{_-_, _≤_}
 use native.Mathlib.Omega.{arith}
 use lib.ListN.{length, length-append}
-use Rattle.trees.specs.Ends.{endOf, restOf, end-lone, rest-lone, Ends, ends}
+use Rattle.lists.specs.Entries.{listEnd, restOf}
+use Rattle.trees.specs.Ends.{end-lone, rest-lone, Ends, ends}
 use Rattle.trees.specs.Walk.{taken, run}
 
 -- ---- what was taken, and what is left
@@ -67,7 +68,7 @@ none-taken {A} (b ∷ sides) = ap (λ (l : List (Option A)). none ∷ l) (none-t
 
 run-append : {A : Type 0} (sides more : List Bool) (xs : List A) → run taken xs (sides ++ more) ≡ run taken xs sides ++ run taken (left sides xs) more
 run-append [] more xs = refl
-run-append {A} (b ∷ sides) more xs = ap (λ (l : List (Option A)). endOf b xs ∷ l) (run-append sides more (restOf b xs))
+run-append {A} (b ∷ sides) more xs = ap (λ (l : List (Option A)). listEnd b xs ∷ l) (run-append sides more (restOf b xs))
 
 pub no-elements : {A : Type 0} (xs : List A) → length xs ≡ 0 → xs ≡ []
 no-elements [] e = refl
@@ -84,7 +85,7 @@ taken-all {A} sides more xs l =
 
 -- ---- a list and its image under a function
 
-pub end-map : {A B : Type 0} (f : A → B) (b : Bool) (xs : List A) → endOf b (map f xs) ≡ Option·map f (endOf b xs)
+pub end-map : {A B : Type 0} (f : A → B) (b : Bool) (xs : List A) → listEnd b (map f xs) ≡ Option·map f (listEnd b xs)
 end-map f b [] = refl
 end-map f false (x ∷ xs) = refl
 end-map f true (x ∷ []) = refl

@@ -15,7 +15,7 @@ use Rattle.records.specs.Records.{nodeOf}
 use Rattle.inspection.specs.Tests.{kidsOk}
 use Rattle.listing.specs.declared.Reached.{Reached}
 use Rattle.listing.specs.Step.{nearOf, farOf, openTo}
-use Rattle.trees.specs.Lists.{All}
+use Rattle.lists.specs.Lists.{All}
 use Rattle.trees.specs.Tree.{Tree, leaf, inner, top}
 use Rattle.trees.specs.Paths.{depth}
 use Rattle.trees.specs.Values.{Entry}

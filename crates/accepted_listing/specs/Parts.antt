@@ -10,7 +10,7 @@ use lib.Seq.{getD-set-same, getD-set-other}
 use Rattle.keys.specs.declared.Key.{Key}
 use Rattle.records.specs.declared.Header.{Header}
 use Rattle.records.specs.declared.NodeIndex.{NodeIndex}
-use Rattle.trees.specs.Lists.{All, all-parts}
+use Rattle.lists.specs.Lists.{All, all-parts}
 use Rattle.trees.specs.Tree.{Tree, leaf, inner, top, entries}
 use Rattle.trees.specs.Map.{Map, listOf}
 use Rattle.accepted.specs.Rules.{Holds}

@@ -23,7 +23,8 @@ use Rattle.listing.specs.declared.Reached.{Reached}
 use Rattle.listing.specs.declared.Moved.{Moved}
 use Rattle.listing.specs.Position.{noNodes, emptyStack, rootStack, bothEnds, openedMade, madeOf}
 use Rattle.listing.specs.Step.{popTo, leafMoved, openedMoved, movedOf, nearEnd, farEnd, withNear, openedStep, stepOf}
-use Rattle.trees.specs.Lists.{All, all-parts}
+use Rattle.lists.specs.Lists.{All, all-parts}
+use Rattle.lists.specs.Answers.{entryFrom}
 use Rattle.trees.specs.Tree.{Tree, leaf, inner, entries, entries-some}
 use Rattle.trees.specs.Paths.{depth-bound}
 use Rattle.trees.specs.Map.{Map, OrderedMap}
@@ -35,7 +36,7 @@ use Rattle.accepted.specs.Rules.{Live}
 use Rattle.accepted.specs.Accepted.{Accepted, HoldsMap, valueAtRecord}
 use Rattle.accepted.specs.Held.{form-passes}
 use Rattle.accepted.specs.Tests.{shape-passes, opened, live-passes}
-use Rattle.accepted_lookup.specs.Answers.{entryFrom, nodes-entries, size-some}
+use Rattle.accepted_lookup.specs.Answers.{nodes-entries, size-some}
 use Rattle.accepted_lookup.specs.Descents.{at}
 use Rattle.accepted_listing.specs.Parts.{PartOf, HeldPart, part-whole, map-children, map-entries, map-held, Named}
 use Rattle.accepted_listing.specs.Opens.{Opens, opens}

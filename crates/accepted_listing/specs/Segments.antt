@@ -3,8 +3,9 @@ use mathlib.Core.Path.{_≡_, sym, ap, subst, _∙_}
 use mathlib.Core.List.{List, [], _∷_, _++_, map, append-nil, append-assoc, map-append}
 use mathlib.Core.Logic.{inl, inr}
 use mathlib.Core.Bool.{Bool, true, false}
-use Rattle.trees.specs.Lists.{All, Pairs, all-parts, pairs-parts}
-use Rattle.trees.specs.Ends.{restOf, rest-lone, Ends, ends}
+use Rattle.lists.specs.Lists.{All, Pairs, all-parts, pairs-parts}
+use Rattle.lists.specs.Entries.{restOf}
+use Rattle.trees.specs.Ends.{rest-lone, Ends, ends}
 
 pub record Segment {A : Type 0} (mid whole : List A) : Type 0 where
   pub before : List A

@@ -12,18 +12,18 @@ use Rattle.records.specs.declared.Value.{Value}
 use Rattle.records.specs.Records.{headerOf}
 use Rattle.lookup.specs.declared.Target.{Target}
 use Rattle.lookup.specs.Get.{targetImage, writeImage}
-use Rattle.trees.specs.Keys.{same}
-use Rattle.trees.specs.Lists.{All, all-append, all-map}
-use Rattle.trees.specs.Tree.{Tree, leaf, inner, entries, Before, Rising}
-use Rattle.trees.specs.Lookup.{find, find-all, unfound, valueOf}
+use Rattle.lists.specs.Lists.{All, all-append, all-map}
+use Rattle.lists.specs.Entries.{same, Before, Rising, find, find-all, unfound, update}
+use Rattle.lists.specs.Machine.{FitsValue}
+use Rattle.trees.specs.Tree.{Tree, leaf, inner, entries}
+use Rattle.trees.specs.Lookup.{valueOf}
 use Rattle.trees.specs.Map.{Map, listOf, lookupIn, map-ascending}
 use Rattle.trees.specs.Values.{Entry}
-use Rattle.record_views.specs.Small.{FitsValue}
 use Rattle.accepted.specs.Rules.{Holds}
 use Rattle.accepted.specs.Held.{list-used}
 use Rattle.accepted.specs.Accepted.{Accepted, HoldsMap, valueAtRecord}
 use Rattle.accepted_lookup.specs.Answers.{valued, listed, targetFrom, value-found, target-agrees}
-use Rattle.accepted_write.specs.Write.{update, value-accepted, value-tree, value-listed}
+use Rattle.accepted_write.specs.Write.{value-accepted, value-tree, value-listed}
 use Rattle.accepted_listing.specs.Segments.{Segment, segment-whole, segment-all, segment-pairs}
 
 -- ---- lists that agree at every element

@@ -16,14 +16,8 @@ use Rattle.records.specs.declared.Node.{Node}
 use Rattle.records.specs.declared.Value.{Value}
 use Rattle.inspection.specs.declared.Opened.the-variants.{Good, Shut}
 use Rattle.records.specs.declared.Refusal.the-variants as no
-use Rattle.records.specs.declared.Done.{Done}
-use Rattle.records.specs.declared.Done.the-variants as done
-use Rattle.records.specs.declared.Got.{Got}
-use Rattle.records.specs.declared.Got.the-variants as got
 use Rattle.records.specs.declared.Place.{Place}
 use Rattle.records.specs.declared.Place.the-variants as place
-use Rattle.records.specs.declared.Entry.{Entry}
-use Rattle.records.specs.declared.Entry.the-variants as entry
 use Rattle.records.specs.declared.Count.the-variants as count
 use Rattle.records.specs.Records.{headerOf, nodeOf, valueRecordOf}
 use Rattle.inspection.specs.Tests.{liveValue}
@@ -38,10 +32,12 @@ use Rattle.lookup.specs.declared.Target.the-variants.{At, No}
 use Rattle.lookup.specs.Start.{lengthOf, openedLength, capacityOf, openedCapacity}
 use Rattle.lookup.specs.Get.{leafTarget, stopTarget, openedTarget, targetOf, targetGot, getOf, stopDone, openedDone, containsOf, stopPlace, openedPlace, addrOf}
 use Rattle.lookup.specs.Ends.{targetEntry, openedEntry, endEntry}
-use Rattle.trees.specs.Lists.{All, pairs-mapped}
-use Rattle.trees.specs.Ends.{endOf, all-end}
-use Rattle.trees.specs.Tree.{Tree, leaf, inner, top, entries, Ordered, Before, Rising}
-use Rattle.trees.specs.Lookup.{find, held, is-some, held-found, find-all, lookup, reach, valueOf, find-map, reach-find, outermost, outermost-entry}
+use Rattle.lists.specs.Lists.{All, pairs-mapped}
+use Rattle.lists.specs.Entries.{listEnd, Before, Rising, find, held, is-some, held-found, find-all, find-map}
+use Rattle.lists.specs.Answers.{gotFrom, doneFrom, entryFrom}
+use Rattle.trees.specs.Ends.{all-end}
+use Rattle.trees.specs.Tree.{Tree, leaf, inner, top, entries, Ordered}
+use Rattle.trees.specs.Lookup.{lookup, reach, valueOf, reach-find, outermost, outermost-entry}
 use Rattle.trees.specs.Map.{Map, listOf, lookupIn, reachIn, OrderedMap, map-lookup}
 use Rattle.trees.specs.Paths.{depth, depth-bound}
 use Rattle.trees.specs.Changes.{target}
@@ -83,7 +79,7 @@ valued-kept n ws vs (e ∷ es) h =
     let rest : valued n vs es ≡ valued n ws es = valued-kept n ws vs es (h .1) in
     λ ι. (e .0, h .0 ι .value) ∷ rest ι
 
-end-valued : (n : ℕ) (ws : List ℕ) (b : Bool) (es : List (Key × ℕ)) → endOf b (valued n ws es) ≡ Option·map (λ e. (e .0, valueAtRecord n ws (e .1))) (endOf b es)
+end-valued : (n : ℕ) (ws : List ℕ) (b : Bool) (es : List (Key × ℕ)) → listEnd b (valued n ws es) ≡ Option·map (λ e. (e .0, valueAtRecord n ws (e .1))) (listEnd b es)
 end-valued n ws b [] = refl
 end-valued n ws false (e ∷ es) = refl
 end-valued n ws true (e ∷ []) = refl
@@ -95,23 +91,11 @@ unfolding nodesIn
 nodes-entries (leaf i key v) = refl
 nodes-entries (inner i key p l r) = rw length-append (omega (arith, nodes-entries l, nodes-entries r))
 
--- ---- the list's answers
-
-abbrev pub gotFrom : Option Value → Got
-gotFrom none = got.Refused no.Absent
-gotFrom (some v) = got.Found v
-
-abbrev pub doneFrom : Bool → Done
-doneFrom true = done.Yes
-doneFrom false = done.Refused no.Absent
+-- ---- the answer of a leaf's node
 
 abbrev pub placeFrom : Option (ℕ × ℕ) → Place
 placeFrom none = place.Refused no.Absent
 placeFrom (some e) = place.At (record { 0 = e .0 })
-
-abbrev pub entryFrom : Option (Key × Value) → Entry
-entryFrom none = entry.Refused no.Absent
-entryFrom (some e) = entry.Is (e .0) (e .1)
 
 -- ---- the descents from the root
 
@@ -241,7 +225,7 @@ module _ {m n : ℕ} {ws : List ℕ} (a : Accepted m n ws) where
   end-all P b t l = all-end (λ e. P (e .1)) b (entries t) l (outermost-entry b t)
 
   end-stop : (right : Bool) (t : Map) → HoldsMap (headerOf n ws) ws t → OrderedMap t → All (λ e. Live (valueRecordOf n ws (e .1))) (listOf t)
-      → targetEntry ws (stopTarget n ws (descent.endOf (headerOf n ws) ws right)) ≡ entryFrom (Option·map (λ e. (e .0, valueAtRecord n ws (e .1))) (endOf right (listOf t)))
+      → targetEntry ws (stopTarget n ws (descent.endOf (headerOf n ws) ws right)) ≡ entryFrom (Option·map (λ e. (e .0, valueAtRecord n ws (e .1))) (listEnd right (listOf t)))
   unfolding targetEntry stopTarget leafTarget
   end-stop right none k o l = rw (from-none (endTurn right) k)
   end-stop right (some t) k o l =
@@ -253,7 +237,7 @@ module _ {m n : ℕ} {ws : List ℕ} (a : Accepted m n ws) where
         outermost-entry right t,
       )
 
-  pub end-agrees : (right : Bool) → endEntry m n ws right ≡ entryFrom (endOf right (listed a))
+  pub end-agrees : (right : Bool) → endEntry m n ws right ≡ entryFrom (listEnd right (listed a))
   unfolding endEntry openedEntry
   end-agrees right =
       rw image-opened (end-stop right (a .tree) (a .holds) (a .ordered) (a .live)) ∙ ap entryFrom (sym (end-valued n ws right (listOf (a .tree))))

@@ -21,7 +21,8 @@ use Rattle.descent.specs.declared.Stop.{Stop}
 use Rattle.descent.specs.declared.Stop.the-variants as stop
 use Rattle.descent.specs.declared.Step.the-variants.{Down, Halt}
 use Rattle.descent.specs.Descent.{childOf, lookupTurn, reachTurn, endTurn, stepOf, descend}
-use Rattle.trees.specs.Keys.{shared, bit, same, Cmp, Bit, Same, test≤, testb, test-same, itself}
+use Rattle.lists.specs.Entries.{same}
+use Rattle.trees.specs.Keys.{shared, bit, Cmp, Bit, Same, test≤, testb, test-same, itself}
 use Rattle.trees.specs.Tree.{Tree, leaf, inner, top}
 use Rattle.trees.specs.Lookup.{lookup, reach, outermost}
 use Rattle.trees.specs.Paths.{depth}

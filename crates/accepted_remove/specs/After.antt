@@ -15,11 +15,9 @@ use Rattle.records.specs.declared.Header.{Header}
 use Rattle.records.specs.declared.Node.{Node}
 use Rattle.records.specs.declared.ValueRecord.{ValueRecord}
 use Rattle.records.specs.Records.{headerOf, valueRecordOf}
-use Rattle.trees.specs.Keys.{same}
-use Rattle.trees.specs.Lists.{All, Pairs, all-map, all-both}
+use Rattle.lists.specs.Lists.{All, Pairs, all-map, all-both}
+use Rattle.lists.specs.Entries.{same, find, find-all, held, is-some, held-found, erase, length-erase}
 use Rattle.trees.specs.Tree.{entries}
-use Rattle.trees.specs.Lookup.{find, find-all, held, is-some, held-found}
-use Rattle.trees.specs.Remove.{erase, length-erase}
 use Rattle.trees.specs.Map.{Map, listOf, removeFrom, map-remove, map-remove-ordered}
 use Rattle.trees.specs.Values.{Unlike, numbered-erase, all-erase}
 use Rattle.record_views.specs.Small.{Small}

@@ -12,16 +12,18 @@ use Rattle.remove_steps.specs.Steps.{leafValue, loneImage, cutImage}
 use Rattle.remove.specs.declared.Plan.{Plan}
 use Rattle.remove.specs.Plan.{leafPlan, stopPlan}
 use Rattle.remove.specs.Steps.{planImage, valueGone, openedPlan, removeOf, removedImage}
+use Rattle.lists.specs.Entries.{find, find-all, unfound, erase, erase-none}
+use Rattle.lists.specs.Answers.{gotFrom}
 use Rattle.trees.specs.Keys.{Bit, testb}
 use Rattle.trees.specs.Tree.{Tree, leaf}
-use Rattle.trees.specs.Lookup.{find, find-all, unfound, reach, valueOf}
-use Rattle.trees.specs.Remove.{hit, erase, erase-none}
+use Rattle.trees.specs.Lookup.{reach, valueOf}
+use Rattle.trees.specs.Remove.{hit}
 use Rattle.trees.specs.Map.{Map, listOf, reachIn, map-lookup}
 use Rattle.accepted.specs.Rules.{Live}
 use Rattle.accepted.specs.Accepted.{Accepted, valueAtRecord}
 use Rattle.accepted.specs.Tests.{opened, live-passes}
 use Rattle.accepted_lookup.specs.Descents.{stopFrom}
-use Rattle.accepted_lookup.specs.Answers.{valued, listed, gotFrom, landing, reach-tree, find-valued}
+use Rattle.accepted_lookup.specs.Answers.{valued, listed, landing, reach-tree, find-valued}
 use Rattle.accepted_remove.specs.Spot.{hit-leaf}
 use Rattle.accepted_remove.specs.After.{removed-accepted, removed-listed}
 use Rattle.accepted_remove.specs.Cut.{cut-removed, cut-plan, cut-value}

@@ -17,11 +17,12 @@ use Rattle.records.specs.Records.{headerOf, nodeOf}
 use Rattle.remove_steps.specs.Steps.{cutImage}
 use Rattle.remove.specs.declared.Plan.the-variants.{Cut}
 use Rattle.remove.specs.Plan.{leafPlan}
-use Rattle.trees.specs.Lists.{all-map}
+use Rattle.lists.specs.Lists.{all-map}
+use Rattle.lists.specs.Entries.{find, erase}
 use Rattle.trees.specs.Tree.{Tree, leaf, inner, top, entries, entries-some, Ordered}
 use Rattle.trees.specs.Nodes.{In}
-use Rattle.trees.specs.Lookup.{find, reach, valueOf, reach-find}
-use Rattle.trees.specs.Remove.{hit, remove, erase, entries-remove}
+use Rattle.trees.specs.Lookup.{reach, valueOf, reach-find}
+use Rattle.trees.specs.Remove.{hit, remove, entries-remove}
 use Rattle.trees.specs.Changes.{spot, in-spot, top-remove}
 use Rattle.trees.specs.Map.{Map, listOf, removeFrom, OrderedMap}
 use Rattle.record_views.specs.Nodes.{changed}

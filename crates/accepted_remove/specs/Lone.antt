@@ -21,10 +21,9 @@ use Rattle.records.specs.Records.{headerOf, nodeOf}
 use Rattle.remove_steps.specs.Steps.{unhung, loneImage}
 use Rattle.remove.specs.declared.Plan.the-variants.{Lone}
 use Rattle.remove.specs.Plan.{leafPlan}
-use Rattle.trees.specs.Keys.{same}
-use Rattle.trees.specs.Lists.{all-map}
+use Rattle.lists.specs.Lists.{all-map}
+use Rattle.lists.specs.Entries.{same, find}
 use Rattle.trees.specs.Tree.{leaf, entries}
-use Rattle.trees.specs.Lookup.{find}
 use Rattle.trees.specs.Map.{Map, listOf, removeFrom}
 use Rattle.record_views.specs.Words.{wide-same}
 use Rattle.record_views.specs.Small.{small-set}

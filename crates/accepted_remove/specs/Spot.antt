@@ -12,7 +12,8 @@ use Rattle.records.specs.Records.{nodeOf}
 use Rattle.remove_steps.specs.Steps.{siblingOf}
 use Rattle.remove.specs.declared.Plan.the-variants.{Cut}
 use Rattle.remove.specs.Plan.{siblingOk, leafPlan}
-use Rattle.trees.specs.Keys.{bit, same, unequal}
+use Rattle.lists.specs.Entries.{same}
+use Rattle.trees.specs.Keys.{bit, unequal}
 use Rattle.trees.specs.Tree.{Tree, leaf, inner, fork, top, relabel}
 use Rattle.trees.specs.Nodes.{In}
 use Rattle.trees.specs.Lookup.{reach}

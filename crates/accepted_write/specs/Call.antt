@@ -11,16 +11,18 @@ use Rattle.records.specs.Records.{headerOf}
 use Rattle.records.specs.Writes.{setValue}
 use Rattle.lookup.specs.declared.Target.{Target}
 use Rattle.lookup.specs.Get.{targetOf, targetDone, writeOf, targetImage, writeImage}
-use Rattle.trees.specs.Lists.{All, all-append}
+use Rattle.lists.specs.Lists.{All, all-append}
+use Rattle.lists.specs.Entries.{find, held, is-some, find-all, Other, unheld, update}
+use Rattle.lists.specs.Answers.{doneFrom}
+use Rattle.lists.specs.Machine.{FitsValue}
 use Rattle.trees.specs.Tree.{Tree, leaf, inner, entries, Ordered}
-use Rattle.trees.specs.Lookup.{find, held, is-some, find-all, Other, unheld, valueOf}
+use Rattle.trees.specs.Lookup.{valueOf}
 use Rattle.trees.specs.Map.{Map, listOf, lookupIn}
-use Rattle.record_views.specs.Small.{FitsValue}
 use Rattle.accepted.specs.Rules.{Holds}
 use Rattle.accepted.specs.Held.{list-used}
 use Rattle.accepted.specs.Accepted.{Accepted, HoldsMap}
-use Rattle.accepted_lookup.specs.Answers.{valued, listed, doneFrom, targetFrom, value-found, held-listed, target-agrees}
-use Rattle.accepted_write.specs.Write.{update, value-accepted, value-tree, value-listed}
+use Rattle.accepted_lookup.specs.Answers.{valued, listed, targetFrom, value-found, held-listed, target-agrees}
+use Rattle.accepted_write.specs.Write.{value-accepted, value-tree, value-listed}
 
 -- ---- the list's value write where the key is not held
 

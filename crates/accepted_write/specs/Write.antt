@@ -19,33 +19,26 @@ use Rattle.records.specs.declared.Header.{Header}
 use Rattle.records.specs.declared.Node.{Node}
 use Rattle.records.specs.declared.Value.{Value}
 use Rattle.records.specs.declared.ValueRecord.{ValueRecord}
-use Rattle.records.specs.declared.Done.the-variants as done
 use Rattle.records.specs.Records.{headerOf, nodeOf, valueRecordOf}
 use Rattle.records.specs.Writes.{setValue}
 use Rattle.lookup.specs.Get.{targetDone, writeOf, targetImage, writeImage}
-use Rattle.trees.specs.Keys.{same}
-use Rattle.trees.specs.Lists.{Pairs, all-map, all-both}
+use Rattle.lists.specs.Lists.{Pairs, all-map, all-both}
+use Rattle.lists.specs.Entries.{same, find, find-all, held, update}
+use Rattle.lists.specs.Machine.{FitsValue}
 use Rattle.trees.specs.Tree.{Tree, leaf, inner, top, entries}
 use Rattle.trees.specs.Nodes.{In}
-use Rattle.trees.specs.Lookup.{find, find-all, held, valueOf}
+use Rattle.trees.specs.Lookup.{valueOf}
 use Rattle.trees.specs.Map.{Map, listOf, lookupIn}
 use Rattle.trees.specs.Values.{Entry, Unlike, Numbered}
 use Rattle.record_views.specs.Nodes.{Same, changed-there, changed-other, node-value-set}
 use Rattle.record_views.specs.Values.{withValue, value-set, value-registers}
 use Rattle.record_views.specs.Header.{header-parts, header-same, value-away, value-beyond, value-top, value-nodes, value-values, value-length}
-use Rattle.record_views.specs.Small.{Small, FitsValue, small-value}
+use Rattle.record_views.specs.Small.{Small, small-value}
 use Rattle.accepted.specs.Rules.{HeaderRules, Holds, Live, FreeValue}
 use Rattle.accepted.specs.Accepted.{Accepted, HoldsMap, valueAtRecord}
 use Rattle.accepted.specs.Held.{in-range}
 use Rattle.accepted.specs.Frame.{holds-kept, chain-kept, chain-range}
-use Rattle.accepted_lookup.specs.Answers.{valued, listed, valued-kept, doneFrom, target-agrees}
-
--- ---- the list's value write
-
--- the key's entry gets the value; nothing changes where the key is not held
-abbrev pub update : {A : Type 0} → Key → A → List (Key × A) → List (Key × A)
-update key v [] = []
-update key v (e ∷ es) = cond (same key (e .0)) ((e .0, v) ∷ es) (e ∷ update key v es)
+use Rattle.accepted_lookup.specs.Answers.{valued, listed, valued-kept, target-agrees}
 
 module _ {m n : ℕ} {ws : List ℕ} (a : Accepted m n ws) (j : ℕ) (low : 1 ≤ j) (used : j < headerOf n ws .values .bump) (v : Value) (fits : FitsValue v) where
   inside : Inside (Values n m) j

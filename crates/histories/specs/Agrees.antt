@@ -23,8 +23,11 @@ use Rattle.lookup.specs.Get.{writeImage}
 use Rattle.insert.specs.Steps.{insertImage}
 use Rattle.remove.specs.Steps.{removedImage}
 use Rattle.full_check.specs.Check.{checkShape, checkOf}
-use Rattle.trees.specs.Lists.{All}
-use Rattle.trees.specs.Lookup.{is-some, valueOf}
+use Rattle.lists.specs.Lists.{All}
+use Rattle.lists.specs.Entries.{is-some}
+use Rattle.lists.specs.Answers.{done-is, got-is, place-is, entry-is, count-is, somewhere, indexless}
+use Rattle.lists.specs.Machine.{Question, get, contains, address, len, capacity, smallest, largest, check, Call, start, insert, remove, write, ask, Fitting, Entries, blankReply, listReply, full, listAnswer, listNext, State, blank, holding, stateAnswer, stateNext, stateAnswers, stateAfter}
+use Rattle.trees.specs.Lookup.{valueOf}
 use Rattle.trees.specs.Map.{lookupIn}
 use Rattle.accepted.specs.Accepted.{Accepted}
 use Rattle.accepted.specs.Tests.{shape-passes}
@@ -34,9 +37,7 @@ use Rattle.accepted_write.specs.Call.{write-agrees}
 use Rattle.accepted_insert.specs.Call.{insert-agrees}
 use Rattle.accepted_remove.specs.Call.{remove-agrees}
 use Rattle.accepted_check.specs.Exact.{check-complete}
-use Rattle.histories.specs.Calls.{Question, get, contains, address, len, capacity, smallest, largest, check}
-use Rattle.histories.specs.Calls.{Call, start, insert, remove, write, ask, Fitting, done-is, got-is, place-is, entry-is, count-is, questionAnswer, answerOf, imageOf, answers, imageAfter}
-use Rattle.histories.specs.Calls.{Entries, somewhere, indexless, blankReply, listReply, full, listAnswer, listNext, State, blank, holding, stateAnswer, stateNext, stateAnswers, stateAfter}
+use Rattle.histories.specs.Calls.{questionAnswer, answerOf, imageLeft, answers, imageAfter}
 use Rattle.histories.specs.Blank.{start-refused, reply-blank, insert-blank, remove-blank, write-blank}
 
 -- ---- the state that an image is in
@@ -79,7 +80,7 @@ module _ {m n : ℕ} {ws : List ℕ} (a : Accepted m n ws) where
 
   -- the answer is the list's, and the image is accepted with the list's next state
   abbrev Follows : Call → Type 0
-  Follows c = (indexless (answerOf m n c ws) ≡ listAnswer m c (listed a)) × ((b : Accepted m n (imageOf m n c ws)) × (listed b ≡ listNext m c (listed a)))
+  Follows c = (indexless (answerOf m n c ws) ≡ listAnswer m c (listed a)) × ((b : Accepted m n (imageLeft m n c ws)) × (listed b ≡ listNext m c (listed a)))
 
   -- an image that is what it was
   kept : (vs : List ℕ) (es : Entries) → vs ≡ ws → es ≡ listed a → (b : Accepted m n vs) × (listed b ≡ es)
@@ -106,7 +107,7 @@ module _ {m n : ℕ} {ws : List ℕ} (a : Accepted m n ws) where
 
 module _ (m n : ℕ) (ws : List ℕ) (shape : Shaped m n (length ws)) (zeros : Blank ws) where
   abbrev FollowsBlank : Call → Type 0
-  FollowsBlank c = (indexless (answerOf m n c ws) ≡ stateAnswer m c blank) × Is m n (imageOf m n c ws) (stateNext m c blank)
+  FollowsBlank c = (indexless (answerOf m n c ws) ≡ stateAnswer m c blank) × Is m n (imageLeft m n c ws) (stateNext m c blank)
 
   still : (vs : List ℕ) → vs ≡ ws → Is m n vs blank
   still vs e = subst (λ (us : List ℕ). Is m n us blank) (sym e) (shape, zeros)
@@ -136,10 +137,10 @@ module _ (m n : ℕ) (ws : List ℕ) (shape : Shaped m n (length ws)) (zeros : B
 
 -- The answer is that of the state, up to the node index, and the image is then in the state's next one.
 pub agrees : (m n : ℕ) (ws : List ℕ) (s : State) → Is m n ws s → (c : Call) → Fitting c
-    → (indexless (answerOf m n c ws) ≡ stateAnswer m c s) × Is m n (imageOf m n c ws) (stateNext m c s)
+    → (indexless (answerOf m n c ws) ≡ stateAnswer m c s) × Is m n (imageLeft m n c ws) (stateNext m c s)
 agrees m n ws blank i c f = blank-agrees m n ws (i .0) (i .1) c
 agrees m n ws (holding es) i c f =
-    subst (λ (l : Entries). (indexless (answerOf m n c ws) ≡ listAnswer m c l) × ((b : Accepted m n (imageOf m n c ws)) × (listed b ≡ listNext m c l))) (i .1) (call-agrees (i .0) c f)
+    subst (λ (l : Entries). (indexless (answerOf m n c ws) ≡ listAnswer m c l) × ((b : Accepted m n (imageLeft m n c ws)) × (listed b ≡ listNext m c l))) (i .1) (call-agrees (i .0) c f)
 
 -- From blank memory or an accepted image, any history of calls has the answers of the state's history, and leaves the image in the state that it comes to.
 pub history : (m n : ℕ) (ws : List ℕ) (s : State) → Is m n ws s → (cs : List Call) → All Fitting cs
@@ -147,5 +148,5 @@ pub history : (m n : ℕ) (ws : List ℕ) (s : State) → Is m n ws s → (cs : 
 history m n ws s i [] f = (refl, i)
 history m n ws s i (c ∷ cs) f =
     let here = agrees m n ws s i c (f .0) in
-    let rest = history m n (imageOf m n c ws) (stateNext m c s) (here .1) cs (f .1) in
+    let rest = history m n (imageLeft m n c ws) (stateNext m c s) (here .1) cs (f .1) in
     ((λ ι. here .0 ι ∷ rest .0 ι), rest .1)

@@ -26,10 +26,12 @@ use Rattle.insert.specs.Steps as inserting
 use Rattle.remove.specs.Steps.{removeOf, removedImage, valueGone}
 use Rattle.remove.specs.Steps as removing
 use Rattle.full_check.specs.Check.{openedCheck, checkShape, checkOf}
+use Rattle.lists.specs.Answers.{done-is}
+use Rattle.lists.specs.Machine.{Question, get, contains, address, len, capacity, smallest, largest, check, blankReply}
 use Rattle.accepted.specs.Accepted.{Accepted}
 use Rattle.accepted.specs.Tests.{shape-passes, header-rules}
 use Rattle.accepted_write.specs.Start.{Blank}
-use Rattle.histories.specs.Calls.{Question, get, contains, address, len, capacity, smallest, largest, check, done-is, questionAnswer, blankReply}
+use Rattle.histories.specs.Calls.{questionAnswer}
 
 -- the node bump is word 6
 bump-word : (n : ℕ) (ws : List ℕ) → headerOf n ws .nodes .bump ≡ getD ws 6 0

@@ -1,4 +1,5 @@
--- The demands that speak of accepted images and of histories, sentence by sentence, each cited from where it is proved. `Call`, `listAnswer` and `listNext` are in Calls, `Accepted` in the crate accepted.
+-- The demands that speak of accepted images and of histories, sentence by sentence, each cited from where it is proved. `Call`, `listAnswer` and `listNext` are in the crate lists, Machine; `answerOf` and
+-- `imageLeft` in Calls; `Accepted` in the crate accepted.
 use mathlib.Core.Path.{_≡_, refl, sym, ap, subst, _∙_}
 use mathlib.Core.List.{List, _∷_, map}
 use mathlib.Core.Logic.{_≢_, _↔_}
@@ -21,18 +22,19 @@ use Rattle.lookup.specs.Promises.{start-kept, set-kept}
 use Rattle.insert.specs.Steps.{insertOf, insertImage}
 use Rattle.insert.specs.Promises.{refusal-keeps}
 use Rattle.remove.specs.Promises.{refused-keeps}
+use Rattle.lists.specs.Lists.{All}
+use Rattle.lists.specs.Entries.{Rising, held}
+use Rattle.lists.specs.Answers.{Answer, numberIn, indexless}
+use Rattle.lists.specs.Machine.{FitsValue, Call, start, insert, remove, write, ask, Fitting, Entries, listAnswer, listNext, State, blank, holding, stateAnswers, stateAfter}
 use Rattle.records_touched.specs.Stores.{Touched, untouched}
 use Rattle.records_touched.specs.Inserted.{insert-touched}
 use Rattle.records_touched.specs.Removed.{remove-touched}
 use Rattle.records_touched.specs.Written.{start-touched, write-touched}
 use Rattle.full_check.specs.Check.{checkOf}
 use Rattle.listing.specs.declared.Position.{Position}
-use Rattle.trees.specs.Lists.{All}
-use Rattle.trees.specs.Tree.{Rising}
-use Rattle.trees.specs.Lookup.{held}
 use Rattle.trees.specs.Map.{shapeIs}
 use Rattle.trees.specs.Shape.{shape}
-use Rattle.record_views.specs.Small.{Small, FitsValue}
+use Rattle.record_views.specs.Small.{Small}
 use Rattle.accepted.specs.Rules.{leafNode}
 use Rattle.accepted.specs.Accepted.{Accepted}
 use Rattle.accepted.specs.Tests.{shape-passes}
@@ -40,8 +42,7 @@ use Rattle.accepted_lookup.specs.Answers.{listed}
 use Rattle.accepted_write.specs.Start.{Blank}
 use Rattle.accepted_insert.specs.Call.{insert-full}
 use Rattle.accepted_check.specs.Exact.{Exact, check-exact, check-complete, check-sound}
-use Rattle.histories.specs.Calls.{Call, start, insert, remove, write, ask, Fitting, Answer, numberIn, answerOf, imageOf, answers, imageAfter}
-use Rattle.histories.specs.Calls.{Entries, indexless, listAnswer, listNext, State, blank, holding, stateAnswers, stateAfter}
+use Rattle.histories.specs.Calls.{answerOf, imageLeft, answers, imageAfter}
 use Rattle.histories.specs.Agrees.{Is, call-agrees, history}
 use Rattle.histories.specs.Refusals.{listNumber, ShortCheck, number-agrees, never-damaged, only-scratch}
 use Rattle.histories.specs.Indexes.{address-absent, address-names, insert-addressed}
@@ -55,7 +56,7 @@ use Rattle.histories.specs.Listings.{Move, FittingMove, moveAnswers, mov
 -- ---- demand 1, over every call
 
 -- "A refusal .. changes no word of the image": on any image.
-pub refusals-change-nothing : (m n : ℕ) (ws : List ℕ) (c : Call) → numberIn (answerOf m n c ws) ≢ 0 → imageOf m n c ws ≡ ws
+pub refusals-change-nothing : (m n : ℕ) (ws : List ℕ) (c : Call) → numberIn (answerOf m n c ws) ≢ 0 → imageLeft m n c ws ≡ ws
 unfolding numberIn
 refusals-change-nothing m n ws start d = start-kept m n ws d
 refusals-change-nothing m n ws (insert key v) d = refusal-keeps m n ws key v d
@@ -74,9 +75,9 @@ pub record AsTheList (m n : ℕ) (ws : List ℕ) (c : Call) (es : Entries) : Typ
   pub undamaged : numberIn (answerOf m n c ws) ≢ 2
   pub shape-right : numberIn (answerOf m n c ws) ≡ 1 → ShortCheck m c
   -- an accepted image, with the list's next state; the check accepts it again
-  pub image : Accepted m n (imageOf m n c ws)
+  pub image : Accepted m n (imageLeft m n c ws)
   pub next : listed image ≡ listNext m c es
-  pub checked : (scratch : List ℕ) → m ≤ length scratch → checkOf m n (imageOf m n c ws) scratch ≡ done.Yes
+  pub checked : (scratch : List ℕ) → m ≤ length scratch → checkOf m n (imageLeft m n c ws) scratch ≡ done.Yes
 
 pub as-the-list : {m n : ℕ} {ws : List ℕ} (a : Accepted m n ws) (c : Call) → Fitting c → AsTheList m n ws c (listed a)
 as-the-list {m} {n} {ws} a c f =
@@ -88,7 +89,7 @@ as-the-list {m} {n} {ws} a c f =
       shape-right = only-scratch a c f;
       image = r .1 .0;
       next = r .1 .1;
-      checked = λ scratch l. check-complete m n (imageOf m n c ws) scratch (r .1 .0) l;
+      checked = λ scratch l. check-complete m n (imageLeft m n c ws) scratch (r .1 .0) l;
     }
 
 -- "On every image that the full check accepts, each call answers as one ascending list of keys and values does, refusals included, and leaves an accepted image."
@@ -178,7 +179,7 @@ pub same-keys-same-shape : {m n m′ n′ : ℕ} {ws vs : List ℕ} {es ds : Ent
 same-keys-same-shape a b e = a .shaped ∙ ap shape e ∙ sym (b .shaped)
 
 -- "Each call rewrites at most five node records, one value record and the header": on any image.
-pub rewrites-at-most-five : (m n : ℕ) (ws : List ℕ) (c : Call) → Touched m n ws (imageOf m n c ws)
+pub rewrites-at-most-five : (m n : ℕ) (ws : List ℕ) (c : Call) → Touched m n ws (imageLeft m n c ws)
 rewrites-at-most-five m n ws start = start-touched m n ws
 rewrites-at-most-five m n ws (insert key v) = insert-touched m n ws key v
 rewrites-at-most-five m n ws (remove key) = remove-touched m n ws key

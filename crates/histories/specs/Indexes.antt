@@ -21,16 +21,17 @@ use Rattle.records.specs.declared.Place.the-variants as place
 use Rattle.records.specs.Records.{headerOf, nodeOf}
 use Rattle.lookup.specs.Get.{addrOf}
 use Rattle.insert.specs.Steps.{insertOf, insertImage}
-use Rattle.trees.specs.Keys.{same, bit, shared}
+use Rattle.lists.specs.Entries.{same, held}
+use Rattle.lists.specs.Answers.{Answer, place-is, indexless, somewhere}
+use Rattle.lists.specs.Machine.{FitsValue, ask, address}
+use Rattle.trees.specs.Keys.{bit, shared}
 use Rattle.trees.specs.Tree.{Tree, leaf, inner, Ordered}
-use Rattle.trees.specs.Lookup.{held, lookup}
+use Rattle.trees.specs.Lookup.{lookup}
 use Rattle.trees.specs.Map.{Map, lookupIn, OrderedMap}
-use Rattle.record_views.specs.Small.{FitsValue}
 use Rattle.accepted.specs.Rules.{Holds, leafNode}
 use Rattle.accepted.specs.Accepted.{Accepted, HoldsMap}
 use Rattle.accepted_lookup.specs.Answers.{listed, placeFrom, addr-agrees}
 use Rattle.accepted_insert.specs.Call.{insert-agrees}
-use Rattle.histories.specs.Calls.{Answer, place-is, indexless, somewhere, ask, address}
 use Rattle.histories.specs.Agrees.{call-agrees}
 
 -- the leaf that a lookup finds is the key's

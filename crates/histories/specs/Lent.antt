@@ -12,10 +12,10 @@ use Rattle.records.specs.declared.Done.the-variants as done
 use Rattle.records.specs.Layout as layout
 use Rattle.inspection.specs.Room.{Shaped}
 use Rattle.full_check.specs.Check.{checkOf}
-use Rattle.trees.specs.Tree.{Rising}
+use Rattle.lists.specs.Entries.{Rising}
+use Rattle.lists.specs.Machine.{Call, Fitting, Entries}
 use Rattle.record_views.specs.Small.{Small}
 use Rattle.accepted_check.specs.Exact.{Exact}
-use Rattle.histories.specs.Calls.{Call, Fitting, Entries}
 use Rattle.histories.specs.Demands.{AsTheList, answers-as-one-list, check-is-exact}
 
 words-small : (bytes : List ℕ) → Bytes bytes → Small (words bytes)

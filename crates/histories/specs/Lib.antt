@@ -1,4 +1,4 @@
--- Histories of calls, and the demands as theorems: Calls has the calls and the list's own machine, Demands the theorems that a reader looks for first.
+-- Histories of calls, and the demands as theorems: Calls has the calls over the words (over the list they are crate `lists`, Machine), Demands the theorems that a reader looks for first.
 pub mod Calls
 pub mod Blank
 pub mod Agrees

@@ -21,20 +21,18 @@ use Rattle.listing.specs.Step.{stepOf}
 use Rattle.insert.specs.Steps.{insertImage}
 use Rattle.remove.specs.Steps.{removeOf, removedImage}
 use Rattle.remove.specs.Promises.{refused-keeps}
-use Rattle.trees.specs.Lists.{All}
-use Rattle.trees.specs.Ends.{endOf, restOf}
-use Rattle.trees.specs.Lookup.{held, unheld, find-none}
-use Rattle.trees.specs.Remove.{erase, erase-none}
+use Rattle.lists.specs.Lists.{All}
+use Rattle.lists.specs.Entries.{listEnd, restOf, held, unheld, find-none, erase, erase-none, update, enter}
+use Rattle.lists.specs.Answers.{gotFrom, entryFrom, Answer, done-is, entry-is, indexless}
+use Rattle.lists.specs.Machine.{Call, start, insert, remove, write, ask, Fitting, Entries, full, State, blank, holding, stateAnswer, stateNext}
 use Rattle.accepted.specs.Accepted.{Accepted}
-use Rattle.accepted_lookup.specs.Answers.{listed, gotFrom, entryFrom}
-use Rattle.accepted_write.specs.Write.{update}
+use Rattle.accepted_lookup.specs.Answers.{listed}
 use Rattle.accepted_write.specs.Start.{Blank}
-use Rattle.accepted_insert.specs.Entered.{enter}
 use Rattle.accepted_insert.specs.Call.{insert-agrees}
 use Rattle.accepted_remove.specs.Call.{remove-agrees}
 use Rattle.accepted_listing.specs.Related.{made-agrees}
 use Rattle.accepted_listing.specs.Moments.{Moment, moment-made, moment-gives, moment-stepped, moment-written, moment-small}
-use Rattle.histories.specs.Calls.{Call, start, insert, remove, write, ask, Fitting, Answer, done-is, entry-is, answerOf, imageOf, Entries, indexless, full, State, blank, holding, stateAnswer, stateNext}
+use Rattle.histories.specs.Calls.{answerOf, imageLeft}
 use Rattle.histories.specs.Blank.{start-refused, shut-blank}
 use Rattle.histories.specs.Agrees.{Is, agrees}
 
@@ -61,7 +59,7 @@ moveAnswer m n (called c) ws p = answerOf m n c ws
 abbrev pub moveImage : ℕ → ℕ → Move → List ℕ → List ℕ
 moveImage m n opened ws = ws
 moveImage m n (stepped back) ws = ws
-moveImage m n (called c) ws = imageOf m n c ws
+moveImage m n (called c) ws = imageLeft m n c ws
 
 abbrev pub movePosition : ℕ → ℕ → Move → List ℕ → Position → Position
 movePosition m n opened ws p = madeOf m n ws .position
@@ -88,7 +86,7 @@ abbrev pub moveTold : ℕ → Move → State → Option Entries → Option Answe
 moveTold m opened blank left = some (done-is (done.Refused no.Damaged))
 moveTold m opened (holding es) left = some (done-is done.Yes)
 moveTold m (stepped back) s none = none
-moveTold m (stepped back) s (some left) = some (entry-is (entryFrom (endOf back left)))
+moveTold m (stepped back) s (some left) = some (entry-is (entryFrom (listEnd back left)))
 moveTold m (called c) s left = some (stateAnswer m c s)
 
 abbrev pub moveNext : ℕ → Move → State → State
@@ -174,7 +172,7 @@ unfolding madeOf openedMade
 made-blank m n ws shape zeros = rw (shut-blank m n ws shape zeros)
 
 module _ (m n : ℕ) (ws : List ℕ) (p : Position) (es : Entries) where
-  called-watched : (left : Entries) (c : Call) → Fitting c → Moment m n ws p es left → Watched m n (imageOf m n c ws) p (stateNext m c (holding es)) (callLeft m c es (some left))
+  called-watched : (left : Entries) (c : Call) → Fitting c → Moment m n ws p es left → Watched m n (imageLeft m n c ws) p (stateNext m c (holding es)) (callLeft m c es (some left))
   called-watched left start f w = watched-kept m n ws _ p (holding es) (some left) (start-refused (w .image) .1) w
   called-watched left (insert key v) f w = go (full m es) refl (agrees m n ws (holding es) (w .image, w .same-list) (insert key v) f .1)
     where
@@ -194,7 +192,7 @@ module _ (m n : ℕ) (ws : List ℕ) (p : Position) (es : Entries) where
   called-watched left (write key v) f w = moment-written w key v f
   called-watched left (ask q) f w = w
 
-  called-unwatched : (c : Call) → Fitting c → Is m n ws (holding es) → Watched m n (imageOf m n c ws) p (stateNext m c (holding es)) (callLeft m c es none)
+  called-unwatched : (c : Call) → Fitting c → Is m n ws (holding es) → Watched m n (imageLeft m n c ws) p (stateNext m c (holding es)) (callLeft m c es none)
   called-unwatched start f i = agrees m n ws (holding es) i start f .1
   called-unwatched (insert key v) f i =
       rw (either-none (full m es)) (agrees m n ws (holding es) i (insert key v) f .1)
@@ -209,7 +207,7 @@ pub move-agrees : (m n : ℕ) (ws : List ℕ) (p : Position) (s : State) (left :
     → Meets (moveAnswer m n x ws p) (moveTold m x s left) × Watched m n (moveImage m n x ws) (movePosition m n x ws p) (moveNext m x s) (moveLeft m x s left)
 move-agrees m n ws p blank none w opened f = (ap (λ (d : Done). done-is d) (made-blank m n ws (w .0) (w .1)), w)
 move-agrees m n ws p blank none w (stepped back) f = (tt, w)
-move-agrees m n ws p blank none w (called c) f = let r = agrees m n ws blank w c f in (r .0, unwatched m n (imageOf m n c ws) p (stateNext m c blank) (r .1))
+move-agrees m n ws p blank none w (called c) f = let r = agrees m n ws blank w c f in (r .0, unwatched m n (imageLeft m n c ws) p (stateNext m c blank) (r .1))
 move-agrees m n ws p blank (some left) w x f = absurd w
 move-agrees m n ws p (holding es) none w opened f =
     (ap (λ (d : Done). done-is d) (made-agrees (w .0) .0), subst (λ (l : Entries). Moment m n ws (madeOf m n ws .position) l l) (w .1) (moment-made (w .0)))

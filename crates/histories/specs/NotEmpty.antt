@@ -13,14 +13,13 @@ use Rattle.keys.specs.declared.Key.{Key}
 use Rattle.keys.specs.Number.{Fits, numberOf}
 use Rattle.records.specs.declared.Value.{Value}
 use Rattle.records.specs.Layout.{imageLength, mostValues, mostNodes}
-use Rattle.trees.specs.Lists.{All}
-use Rattle.trees.specs.Tree.{Rising}
-use Rattle.record_views.specs.Small.{FitsValue}
+use Rattle.lists.specs.Lists.{All}
+use Rattle.lists.specs.Entries.{Rising, enter}
+use Rattle.lists.specs.Machine.{FitsValue, Call, start, insert, Fitting, Entries, full, State, blank, holding, stateAfter}
 use Rattle.accepted.specs.Accepted.{Accepted}
 use Rattle.accepted_lookup.specs.Answers.{listed}
 use Rattle.accepted_write.specs.Start.{Blank}
-use Rattle.accepted_insert.specs.Entered.{enter}
-use Rattle.histories.specs.Calls.{Call, start, insert, Fitting, Entries, full, State, blank, holding, imageAfter, stateAfter}
+use Rattle.histories.specs.Calls.{imageAfter}
 use Rattle.histories.specs.Agrees.{Is, history}
 
 -- ---- blank memory

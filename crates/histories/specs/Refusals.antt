@@ -14,13 +14,12 @@ use Rattle.records.specs.declared.Done.the-variants as done
 use Rattle.records.specs.declared.Place.the-variants as place
 use Rattle.records.specs.declared.Refusal.the-variants as no
 use Rattle.records.specs.Numbers.{refusalNumber, doneNumber, gotNumber, placeNumber, entryNumber, countNumber}
-use Rattle.trees.specs.Keys.{same}
-use Rattle.trees.specs.Ends.{endOf}
-use Rattle.trees.specs.Lookup.{find, held}
+use Rattle.lists.specs.Entries.{same, listEnd, find, held}
+use Rattle.lists.specs.Answers.{gotFrom, doneFrom, entryFrom, Answer, done-is, got-is, place-is, entry-is, count-is, numberIn, indexless, somewhere}
+use Rattle.lists.specs.Machine.{Question, get, contains, address, len, capacity, smallest, largest, check, Call, start, insert, remove, write, ask, Fitting, Entries, full, listAnswer}
 use Rattle.accepted.specs.Accepted.{Accepted}
-use Rattle.accepted_lookup.specs.Answers.{listed, gotFrom, doneFrom, entryFrom}
-use Rattle.histories.specs.Calls.{Question, get, contains, address, len, capacity, smallest, largest, check, Call, start, insert, remove, write, ask, Fitting}
-use Rattle.histories.specs.Calls.{Answer, done-is, got-is, place-is, entry-is, count-is, numberIn, answerOf, indexless, somewhere, Entries, full, listAnswer}
+use Rattle.accepted_lookup.specs.Answers.{listed}
+use Rattle.histories.specs.Calls.{answerOf}
 use Rattle.histories.specs.Agrees.{call-agrees}
 
 -- ---- the numbers that the list gives
@@ -88,7 +87,7 @@ unfolding numberIn placeNumber refusalNumber
 full-number true = refl
 full-number false = refl
 
-end-number : (b : Bool) (es : Entries) → entryNumber (entryFrom (endOf b es)) ≡ absentIfEmpty es
+end-number : (b : Bool) (es : Entries) → entryNumber (entryFrom (listEnd b es)) ≡ absentIfEmpty es
 unfolding entryNumber refusalNumber
 end-number b [] = refl
 end-number false (e ∷ es) = refl

@@ -11,7 +11,8 @@ use Rattle.records.specs.declared.Value.{Value}
 use Rattle.records.specs.declared.Header.{Header}
 use Rattle.records.specs.declared.Node.{Node}
 use Rattle.records.specs.Records.{headerOf, nodeOf}
-use Rattle.trees.specs.Tree.{Tree, leaf, inner, top, Rising}
+use Rattle.lists.specs.Entries.{Rising}
+use Rattle.trees.specs.Tree.{Tree, leaf, inner, top}
 use Rattle.trees.specs.Map.{Map, listOf, OrderedMap, shapeIs, map-shape, map-ascending}
 use Rattle.trees.specs.Shape.{shape}
 use Rattle.trees.specs.Paths.{depth, depth-bound}

@@ -9,15 +9,17 @@ use lib.Dec.{lit<}
 use Rattle.keys.specs.declared.Key.{Key}
 use Rattle.keys.specs.Number.{Fits}
 use Rattle.records.specs.Numbers.{zeroValue}
-use Rattle.trees.specs.Lists.{All, all-map, all-mapped, pairs-mapped}
-use Rattle.trees.specs.Tree.{Tree, leaf, inner, entries, each-entries, each-fits, Ordered, Before, Rising, ascending}
+use Rattle.lists.specs.Lists.{All, all-map, all-mapped, pairs-mapped}
+use Rattle.lists.specs.Entries.{Before, Rising}
+use Rattle.lists.specs.Machine.{Call, start, Entries}
+use Rattle.trees.specs.Tree.{Tree, leaf, inner, entries, each-entries, each-fits, Ordered, ascending}
 use Rattle.trees.specs.Map.{Map, shapeIs, map-shape}
 use Rattle.trees.specs.Shape.{Shape, lone, branch, shapeOf, shape}
 use Rattle.trees.specs.Shape as shapes
 use Rattle.trees.specs.Paths.{depth, powers, longest-path}
 use Rattle.accepted.specs.Accepted.{Accepted}
 use Rattle.accepted_lookup.specs.Answers.{listed}
-use Rattle.histories.specs.Calls.{Call, start, Entries, imageAfter}
+use Rattle.histories.specs.Calls.{imageAfter}
 use Rattle.histories.specs.Shapes.{keysOf, longest, canonical-shape}
 use Rattle.histories.specs.NotEmpty.{Limits, zeroWords, inserts, FitsEntry, every-list}
 

@@ -22,20 +22,17 @@ use Rattle.lookup.specs.Start.{lengthOf}
 use Rattle.lookup.specs.Get.{getOf}
 use Rattle.insert.specs.Steps.{insertImage}
 use Rattle.remove.specs.Steps.{removedImage}
-use Rattle.trees.specs.Keys.{same}
-use Rattle.trees.specs.Lists.{All, all-map}
-use Rattle.trees.specs.Tree.{Rising}
+use Rattle.lists.specs.Lists.{All, all-map}
+use Rattle.lists.specs.Entries.{same, Rising, find, held, erase, length-erase, update, enter}
+use Rattle.lists.specs.Answers.{gotFrom, Answer, done-is, got-is, place-is, entry-is, count-is, somewhere, indexless}
+use Rattle.lists.specs.Machine.{FitsValue, get, len, check, Call, start, insert, remove, ask, Fitting, Entries, blank}
 use Rattle.trees.specs.Insert.{put, length-put}
-use Rattle.trees.specs.Lookup.{find, held}
-use Rattle.trees.specs.Remove.{erase, length-erase}
-use Rattle.record_views.specs.Small.{FitsValue}
 use Rattle.accepted.specs.Accepted.{Accepted}
-use Rattle.accepted_lookup.specs.Answers.{listed, gotFrom, get-agrees, length-agrees}
-use Rattle.accepted_write.specs.Write.{update}
-use Rattle.accepted_insert.specs.Entered.{enter, enter-either}
+use Rattle.accepted_lookup.specs.Answers.{listed, get-agrees, length-agrees}
+use Rattle.accepted_insert.specs.Entered.{enter-either}
 use Rattle.accepted_insert.specs.Call.{insert-agrees}
 use Rattle.accepted_remove.specs.Call.{remove-agrees}
-use Rattle.histories.specs.Calls.{get, len, check, Call, start, insert, remove, ask, Fitting, Answer, done-is, got-is, place-is, entry-is, count-is, answers, Entries, somewhere, indexless, blank}
+use Rattle.histories.specs.Calls.{answers}
 use Rattle.histories.specs.Agrees.{history}
 use Rattle.histories.specs.Shapes.{ascends}
 use Rattle.histories.specs.NotEmpty.{Limits, zeroWords, zeros-are}

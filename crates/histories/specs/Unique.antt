@@ -5,12 +5,12 @@ use mathlib.Core.Option.{none, some}
 use Prim.Native.Nat.{ℕ, _≤_}
 use native.Mathlib.Omega.{arith}
 use Rattle.records.specs.Records.{headerOf}
+use Rattle.lists.specs.Machine.{Entries, State, blank, holding}
 use Rattle.trees.specs.Tree.{Tree, leaf, inner}
 use Rattle.trees.specs.Map.{Map, listOf}
 use Rattle.accepted.specs.Accepted.{Accepted, HoldsMap, nodesIn}
 use Rattle.accepted.specs.Held.{some-nodes, unique}
 use Rattle.accepted_lookup.specs.Answers.{valued, listed}
-use Rattle.histories.specs.Calls.{Entries, State, blank, holding}
 use Rattle.histories.specs.Blank.{never-blank}
 use Rattle.histories.specs.Agrees.{Is}
 

@@ -21,16 +21,12 @@ use Rattle.records.specs.declared.Content.{Content}
 use Rattle.records.specs.declared.Value.{Value}
 use Rattle.records.specs.Records.{nodeOf, contentOf}
 use Rattle.records.specs.Writes.{contentAt, setContent, valueSetAt, setValue}
+use Rattle.lists.specs.Machine.{FitsValue}
 
 abbrev pub Small : List ℕ → Type 0
 Small ws = (k : ℕ) → getD ws k 0 < 2 ^ 32
 
--- a value's two words fit 64 bits, as they do in every value that a call takes
-pub record FitsValue (v : Value) : Type 0 where
-  pub first-fits : v .first < 2 ^ 64
-  pub second-fits : v .second < 2 ^ 64
-
--- the same of a content
+-- a content's words fit 64 bits, as those of a value do (`FitsValue`)
 pub record FitsContent (c : Content) : Type 0 where
   pub key-fits : Fits (c .key)
   pub prefix-fits : c .prefix < 2 ^ 64

@@ -6,7 +6,8 @@ use mathlib.Core.Bool.{Bool, true, false, cond}
 use Prim.Native.Nat.{ℕ}
 use lib.Dec.{leb}
 use Rattle.keys.specs.declared.Key.{Key}
-use Rattle.trees.specs.Keys.{shared, bit, same, Bit, testb, unequal}
+use Rattle.lists.specs.Entries.{same}
+use Rattle.trees.specs.Keys.{shared, bit, Bit, testb, unequal}
 use Rattle.trees.specs.Tree.{Tree, leaf, inner, fork, top, keyOf, relabel}
 use Rattle.trees.specs.Insert.{split, insert}
 use Rattle.trees.specs.Remove.{hit, close, remove}

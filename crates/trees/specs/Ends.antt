@@ -1,31 +1,16 @@
--- The two ends of a list. A side is a Bool: false is the left, the front; true is the right, the back. What holds at both ends is said once, over the side.
+-- Laws of the two ends of a list (`listEnd`, `restOf`: crate `lists`, Entries). A side is a Bool: false is the left, the front; true is the right, the back. What holds at both ends is said once, over the side.
 use mathlib.Core.Path.{_≡_, refl, ap, sym, subst, _∙_}
 use mathlib.Core.Logic.{_⊎_, inl, inr}
 use mathlib.Core.Bool.{Bool, true, false, not}
-use mathlib.Core.Option.{Option, none, some, Option·none-ne-some, Option·some-injective}
-use mathlib.Core.List.{List, [], _∷_, _++_, append-nil, append-assoc, dropLast}
-use Rattle.trees.specs.Lists.{All, Pairs, Across, all-parts, pairs-parts, across-turned}
+use mathlib.Core.Option.{Option, some, Option·none-ne-some, Option·some-injective}
+use mathlib.Core.List.{List, [], _∷_, _++_, append-nil, append-assoc}
+use Rattle.lists.specs.Lists.{All, Pairs, Across, all-parts, pairs-parts, across-turned}
+use Rattle.lists.specs.Entries.{lastOf, listEnd, restOf}
 
 -- two lists in a row, near on the side
 abbrev pub beside : {A : Type 0} → Bool → List A → List A → List A
 beside false near far = near ++ far
 beside true near far = far ++ near
-
-abbrev lastOf : {A : Type 0} → A → List A → A
-lastOf x [] = x
-lastOf x (y ∷ ys) = lastOf y ys
-
--- the first or the last element
-abbrev pub endOf : {A : Type 0} → Bool → List A → Option A
-endOf b [] = none
-endOf false (x ∷ xs) = some x
-endOf true (x ∷ xs) = some (lastOf x xs)
-
--- the list without it
-abbrev pub restOf : {A : Type 0} → Bool → List A → List A
-restOf b [] = []
-restOf false (x ∷ xs) = xs
-restOf true (x ∷ xs) = dropLast (x ∷ xs)
 
 -- ---- laws of beside
 
@@ -52,7 +37,7 @@ pairs-beside {A} {R} s true near far h = let k = pairs-parts R far near h in (k 
 
 -- ---- what stands at an end
 
-pub end-beside : {A : Type 0} (b : Bool) (near far : List A) {x : A} → endOf b near ≡ some x → endOf b (beside b near far) ≡ some x
+pub end-beside : {A : Type 0} (b : Bool) (near far : List A) {x : A} → listEnd b near ≡ some x → listEnd b (beside b near far) ≡ some x
 end-beside false [] far e = absurd (Option·none-ne-some _ e)
 end-beside false (y ∷ ys) far e = e
 end-beside true near [] e = e
@@ -63,10 +48,10 @@ end-beside true (y ∷ ys) (z ∷ zs) e = rw (behind z zs y ys) e
     behind z [] y ys = refl
     behind z (a ∷ zs) y ys = behind a zs y ys
 
-pub end-lone : {A : Type 0} (b : Bool) (x : A) (far : List A) → endOf b (beside b (x ∷ []) far) ≡ some x
+pub end-lone : {A : Type 0} (b : Bool) (x : A) (far : List A) → listEnd b (beside b (x ∷ []) far) ≡ some x
 end-lone b x far = end-beside b (x ∷ []) far (lone b)
   where
-    lone : (b : Bool) → endOf b (x ∷ []) ≡ some x
+    lone : (b : Bool) → listEnd b (x ∷ []) ≡ some x
     lone true = refl
     lone false = refl
 
@@ -89,11 +74,11 @@ ends true (x ∷ xs) = go (ends true xs)
     go (inl e) = inr (x, [], rw e)
     go (inr (y, rest, e)) = inr (y, x ∷ rest, rw e)
 
-pub all-end : {A : Type 0} (P : A → Type 0) (b : Bool) (xs : List A) {x : A} → All P xs → endOf b xs ≡ some x → P x
+pub all-end : {A : Type 0} (P : A → Type 0) (b : Bool) (xs : List A) {x : A} → All P xs → listEnd b xs ≡ some x → P x
 all-end P b xs {x} h e = go (ends b xs)
   where
     go : Ends b xs → P x
-    go (inl f) = absurd (Option·none-ne-some x (sym (ap (endOf b) f) ∙ e))
+    go (inl f) = absurd (Option·none-ne-some x (sym (ap (listEnd b) f) ∙ e))
     go (inr (y, rest, f)) =
-        let g : y ≡ x = Option·some-injective y x (sym (end-lone b y rest) ∙ sym (ap (endOf b) f) ∙ e) in
+        let g : y ≡ x = Option·some-injective y x (sym (end-lone b y rest) ∙ sym (ap (listEnd b) f) ∙ e) in
         subst P g (all-beside P b (y ∷ []) rest (rw f at h) .0 .0)

@@ -13,8 +13,9 @@ use lib.ListN.{length}
 use borrow.Author.Tests.{lt-ltb, le-ltb, le-leb, ltb-true, eq-eqb, ne-eqb}
 use Rattle.keys.specs.declared.Key.{Key}
 use Rattle.keys.specs.Number.{numberOf, Fits}
-use Rattle.trees.specs.Keys.{shared, bit, same, Bit, Cmp, Same, testb, test≤, test-same, is-not, through, at-most, itself, turn, ultra, agree, differ}
-use Rattle.trees.specs.Lists.{All, Pairs, all-map}
+use Rattle.lists.specs.Lists.{All, Pairs, all-map}
+use Rattle.lists.specs.Entries.{same, held, held-none}
+use Rattle.trees.specs.Keys.{shared, bit, Bit, Cmp, Same, testb, test≤, test-same, is-not, through, at-most, itself, turn, ultra, agree, differ}
 use Rattle.trees.specs.Ends.{beside, beside-nil}
 use Rattle.trees.specs.Tree.{
   Tree,
@@ -42,7 +43,7 @@ use Rattle.trees.specs.Tree.{
   each-fits,
   sides,
 }
-use Rattle.trees.specs.Lookup.{held, held-none, lookup}
+use Rattle.trees.specs.Lookup.{lookup}
 
 -- ---- the steps
 

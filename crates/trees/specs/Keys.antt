@@ -6,7 +6,7 @@ use mathlib.Core.Bool.{Bool, true, false, not, cond, true≢false}
 use Prim.Native.Nat.{ℕ, _≤_, _<_, min}
 use native.Mathlib.Nat.{lt-of-not-le}
 use native.Mathlib.Omega.{arith}
-use lib.Dec.{leb, eqb}
+use lib.Dec.{leb}
 use borrow.Author.Tests.{leb-true, leb-false, eqb-true, eqb-false}
 use Rattle.keys.specs.declared.Key.{Key}
 use Rattle.keys.specs.Number.{numberOf, Fits, number-bounded, number-equal}
@@ -14,15 +14,13 @@ use Rattle.keys.specs.Common.{common, bitOf}
 use Rattle.keys.specs.Prefixes.{common-at-most, common-itself, common-turned, common-all, common-through}
 use Rattle.keys.specs.Bits.{bits-agree, bits-apart, bits-differ, common-more}
 use Rattle.keys.specs.Order.{order-of-bits}
+use Rattle.lists.specs.Entries.{same}
 
 abbrev pub shared : Key → Key → ℕ
 shared a b = common (numberOf a) (numberOf b)
 
 abbrev pub bit : Key → ℕ → Bool
 bit a p = bitOf (numberOf a) p
-
-abbrev pub same : Key → Key → Bool
-same a b = eqb (numberOf a) (numberOf b)
 
 -- ---- tests, each with its fact and its equation
 

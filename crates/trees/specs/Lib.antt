@@ -1,6 +1,5 @@
 -- Crit-bit trees over the keys of crate `keys`: what each step of the map does to a tree is what it does to the ascending list.
 pub mod Keys
-pub mod Lists
 pub mod Ends
 pub mod Tree
 pub mod Lookup

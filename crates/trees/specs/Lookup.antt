@@ -1,28 +1,20 @@
 -- Lookup "descends by the key's bit at the prefix length; it stops at the first node whose prefix the key does not share and answers absent. At a leaf the
 -- whole key is compared. Remove compares no prefix on its way, only the leaf" (document 01, "Steps of each call"). Both find what the ascending list
 -- holds; and the smallest and the largest key are reached by turning always to one side.
-use mathlib.Core.Path.{_≡_, refl, sym, ap, _∙_}
+use mathlib.Core.Path.{_≡_, refl, sym, _∙_}
 use mathlib.Core.Logic.{_≢_, inl, inr}
 use mathlib.Core.Bool.{Bool, true, false, not, cond}
 use mathlib.Core.Option.{Option, none, some, Option·map}
-use mathlib.Core.List.{List, [], _∷_, _++_, map}
+use mathlib.Core.List.{List, [], _∷_, _++_}
 use Prim.Native.Nat.{ℕ, suc, _<_}
 use native.Mathlib.Omega.{arith}
 use lib.Dec.{leb}
 use Rattle.keys.specs.declared.Key.{Key}
-use Rattle.trees.specs.Keys.{shared, bit, same, Bit, Cmp, Same, testb, test≤, test-same, unequal, turn, ultra, agree, itself}
-use Rattle.trees.specs.Lists.{All}
-use Rattle.trees.specs.Ends.{beside, endOf, end-beside}
+use Rattle.lists.specs.Lists.{All}
+use Rattle.lists.specs.Entries.{same, listEnd, find, Other, find-none, find-map}
+use Rattle.trees.specs.Keys.{shared, bit, Bit, Cmp, Same, testb, test≤, test-same, unequal, turn, ultra, agree, itself}
+use Rattle.trees.specs.Ends.{beside, end-beside}
 use Rattle.trees.specs.Tree.{Tree, leaf, inner, gather, entries, places, gather-map, Each, each-gather, each-map, Side, Ordered}
-
-abbrev pub find : {A : Type 0} → Key → List (Key × A) → Option A
-find k [] = none
-find k (e ∷ es) = cond (same k (e .0)) (some (e .1)) (find k es)
-
--- whether k is there
-abbrev pub held : {A : Type 0} → Key → List (Key × A) → Bool
-held k [] = false
-held k (e ∷ es) = cond (same k (e .0)) true (held k es)
 
 -- the leaf's node and value record
 abbrev pub lookup : Key → Tree → Option (ℕ × ℕ)
@@ -46,9 +38,6 @@ abbrev pub greatestOf : Tree → Key × (ℕ × ℕ)
 greatestOf t = outermost true t
 
 -- ---- keys that k is not
-
-abbrev pub Other : Key → Key → Type 0
-Other k a = same k a ≡ false
 
 pub other : (k a : Key) → shared k a < 128 → Other k a
 other k a h = go (test-same k a)
@@ -77,50 +66,7 @@ strangers k n p b t s e h = each-map (λ a x. other-side k n p b s (λ f. differ
     differs true e = unequal false e refl
     differs false e = unequal true refl e
 
--- ---- a key that is held, and one that is not
-
-abbrev pub is-some : {A : Type 0} → Option A → Bool
-is-some none = false
-is-some (some x) = true
-
-pub held-found : {A : Type 0} (k : Key) (es : List (Key × A)) → held k es ≡ is-some (find k es)
-held-found k [] = refl
-held-found k (e ∷ es) = go (same k (e .0)) (held-found k es)
-  where
-    go : (b : Bool) → held k es ≡ is-some (find k es) → cond b true (held k es) ≡ is-some (cond b (some (e .1)) (find k es))
-    go true h = refl
-    go false h = h
-
--- what holds of every entry's value holds of one that is found
-pub find-all : {A : Type 0} (P : A → Type 0) (k : Key) (es : List (Key × A)) (v : A) → All (λ e. P (e .1)) es → find k es ≡ some v → P v
-find-all P k [] v a e = let z : _≡_ {A = ℕ} 0 1 = cc in absurd (omega arith)
-find-all P k (x ∷ es) v a e = go (same k (x .0)) e (find-all P k es v (a .1))
-  where
-    go : (b : Bool) → cond b (some (x .1)) (find k es) ≡ some v → (find k es ≡ some v → P v) → P v
-    go true q f = let same-value : x .1 ≡ v = cc in rw (sym same-value) (a .0)
-    go false q f = f q
-
--- a key that is not held is none of the keys
-pub unheld : {A : Type 0} (k : Key) (es : List (Key × A)) → held k es ≡ false → All (λ e. Other k (e .0)) es
-unheld k [] e = tt
-unheld k (x ∷ es) e = go (same k (x .0)) e (unheld k es)
-  where
-    go : (b : Bool) → cond b true (held k es) ≡ false → (held k es ≡ false → All (λ e. Other k (e .0)) es) → (b ≡ false) × All (λ e. Other k (e .0)) es
-    go true q f = absurd (unequal true refl q)
-    go false q f = (refl, f q)
-
-pub unfound : {A : Type 0} (k : Key) (es : List (Key × A)) → find k es ≡ none → All (λ e. Other k (e .0)) es
-unfound k es e = unheld k es (held-found k es ∙ ap is-some e)
-
 -- ---- find beside keys that k is not
-
-pub held-none : {A : Type 0} (k : Key) (es : List (Key × A)) → All (λ e. Other k (e .0)) es → held k es ≡ false
-held-none k [] h = refl
-held-none k (e ∷ es) h = rw (h .0) (held-none k es (h .1))
-
-pub find-none : {A : Type 0} (k : Key) (es : List (Key × A)) → All (λ e. Other k (e .0)) es → find k es ≡ none
-find-none k [] h = refl
-find-none k (e ∷ es) h = rw (h .0) (find-none k es (h .1))
 
 find-beside : {A : Type 0} (k : Key) (b : Bool) (near far : List (Key × A)) → All (λ e. Other k (e .0)) far → find k (beside b near far) ≡ find k near
 find-beside k false [] far h = find-none k far h
@@ -164,32 +110,23 @@ lookup-places k (inner i a p l r) o = go (test≤ p (shared k a)) (lookup-places
 abbrev pub valueOf : Option (ℕ × ℕ) → Option ℕ
 valueOf o = Option·map (λ n. n .1) o
 
-pub find-map : {A B : Type 0} (k : Key) (g : A → B) (es : List (Key × A)) → find k (map (λ e. (e .0, g (e .1))) es) ≡ Option·map g (find k es)
-find-map k g [] = refl
-find-map k g (e ∷ es) = go (same k (e .0)) (find-map k g es)
-  where
-    go : (b : Bool) → find k (map (λ e. (e .0, g (e .1))) es) ≡ Option·map g (find k es)
-        → cond b (some (g (e .1))) (find k (map (λ e. (e .0, g (e .1))) es)) ≡ Option·map g (cond b (some (e .1)) (find k es))
-    go true h = refl
-    go false h = h
-
 find-entries : (k : Key) (t : Tree) → find k (entries t) ≡ valueOf (find k (places t))
 find-entries k t = rw (← (gather-map {A = Key × (ℕ × ℕ)} {B = Key × ℕ} (λ e. (e .0, e .1 .1)) (λ i a v. (a, (i, v))) t)) (find-map k (λ n. n .1) (places t))
 
 -- ---- the ends
 
 outermost-gather : {A : Type 0} (f : ℕ → Key → ℕ → A) (b : Bool) (t : Tree)
-    → endOf b (gather f t) ≡ some (f (outermost b t .1 .0) (outermost b t .0) (outermost b t .1 .1))
+    → listEnd b (gather f t) ≡ some (f (outermost b t .1 .0) (outermost b t .0) (outermost b t .1 .1))
 outermost-gather f b (leaf i k v) = lone b
   where
-    lone : (b : Bool) → endOf b (f i k v ∷ []) ≡ some (f i k v)
+    lone : (b : Bool) → listEnd b (f i k v ∷ []) ≡ some (f i k v)
     lone true = refl
     lone false = refl
 outermost-gather f true (inner i k p l r) = end-beside true (gather f r) (gather f l) (outermost-gather f true r)
 outermost-gather f false (inner i k p l r) = end-beside false (gather f l) (gather f r) (outermost-gather f false l)
 
 -- Going always to one side leads to the first or to the last entry.
-pub outermost-entry : (b : Bool) (t : Tree) → endOf b (entries t) ≡ some (outermost b t .0, outermost b t .1 .1)
+pub outermost-entry : (b : Bool) (t : Tree) → listEnd b (entries t) ≡ some (outermost b t .0, outermost b t .1 .1)
 outermost-entry b t = outermost-gather (λ i k v. (k, v)) b t
 
 -- Lookup, and the descent of remove, answer for every key what the list of entries holds.

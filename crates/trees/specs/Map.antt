@@ -9,12 +9,12 @@ use Prim.Native.Nat.{ℕ, suc}
 use lib.ListN.{length}
 use Rattle.keys.specs.declared.Key.{Key}
 use Rattle.keys.specs.Number.{Fits}
+use Rattle.lists.specs.Entries.{listEnd, Rising, find, held, erase, length-erase}
 use Rattle.trees.specs.Keys.{Bit, testb}
-use Rattle.trees.specs.Ends.{endOf}
-use Rattle.trees.specs.Tree.{Tree, leaf, entries, gather-map, Ordered, Rising, ascending}
-use Rattle.trees.specs.Lookup.{find, held, lookup, reach, valueOf, lookup-find, reach-find, outermost, outermost-entry}
+use Rattle.trees.specs.Tree.{Tree, leaf, entries, gather-map, Ordered, ascending}
+use Rattle.trees.specs.Lookup.{lookup, reach, valueOf, lookup-find, reach-find, outermost, outermost-entry}
 use Rattle.trees.specs.Insert.{insert, put, ordered-insert, length-put, entries-insert}
-use Rattle.trees.specs.Remove.{hit, remove, erase, ordered-remove, length-erase, erase-hit, entries-remove}
+use Rattle.trees.specs.Remove.{hit, remove, ordered-remove, erase-hit, entries-remove}
 use Rattle.trees.specs.Shape.{Shape, blank, shapeOf, shape, canonical}
 
 abbrev pub Map : Type 0
@@ -82,7 +82,7 @@ pub map-lookup : (k : Key) (m : Map) → OrderedMap m → (valueOf (lookupIn k m
 map-lookup k none o = (refl, refl)
 map-lookup k (some t) o = (lookup-find k t o, reach-find k t o)
 
-pub map-outermost : (b : Bool) (m : Map) → Option·map (λ e. (e .0, e .1 .1)) (outermostIn b m) ≡ endOf b (listOf m)
+pub map-outermost : (b : Bool) (m : Map) → Option·map (λ e. (e .0, e .1 .1)) (outermostIn b m) ≡ listEnd b (listOf m)
 map-outermost b none = refl
 map-outermost b (some t) = sym (outermost-entry b t)
 

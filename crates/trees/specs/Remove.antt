@@ -1,15 +1,15 @@
 -- Remove from a tree: it "copies the sibling into the parent" of the key's leaf, and "compares no prefix on its way, only the leaf" (document 01, "Steps of
 -- each call"). The tree stays ordered, and its entries are those of the ascending list after the remove.
-use mathlib.Core.Path.{_≡_, refl, ap, sym, _∙_}
+use mathlib.Core.Path.{_≡_, refl, sym, _∙_}
 use mathlib.Core.Logic.{inl, inr}
 use mathlib.Core.Bool.{Bool, true, false, cond, not, Bool·not-not}
 use mathlib.Core.List.{List, [], _∷_, _++_}
-use Prim.Native.Nat.{ℕ, suc, _<_}
-use lib.ListN.{length}
+use Prim.Native.Nat.{ℕ, _<_}
 use Rattle.keys.specs.declared.Key.{Key}
 use Rattle.keys.specs.Number.{Fits}
-use Rattle.trees.specs.Keys.{bit, same, Bit, testb, unequal, chosen, through}
-use Rattle.trees.specs.Lists.{All}
+use Rattle.lists.specs.Lists.{All}
+use Rattle.lists.specs.Entries.{same, Other, erase, erase-none}
+use Rattle.trees.specs.Keys.{bit, Bit, testb, unequal, chosen}
 use Rattle.trees.specs.Ends.{beside, beside-nil}
 use Rattle.trees.specs.Tree.{
   Tree,
@@ -29,7 +29,7 @@ use Rattle.trees.specs.Tree.{
   ordered-relabel,
   ordered-fork,
 }
-use Rattle.trees.specs.Lookup.{Other, strangers, held}
+use Rattle.trees.specs.Lookup.{strangers}
 
 -- ---- the steps
 
@@ -46,10 +46,6 @@ close i a p b gone near far = cond gone (relabel i far) (fork i a p b near far)
 abbrev pub remove : Key → Tree → Tree
 remove k (leaf i a v) = leaf i a v
 remove k (inner i a p l r) = cond (bit k p) (close i a p true (hit k r) (remove k r) l) (close i a p false (hit k l) (remove k l) r)
-
-abbrev pub erase : {A : Type 0} → Key → List (Key × A) → List (Key × A)
-erase k [] = []
-erase k (e ∷ es) = cond (same k (e .0)) es (e ∷ erase k es)
 
 -- ---- a fact of every key stays, and so does the order
 
@@ -79,10 +75,6 @@ ordered-remove k (inner i a p l r) o =
 
 -- ---- the list's remove, beside keys that k is not
 
-pub erase-none : {A : Type 0} (k : Key) (es : List (Key × A)) → All (λ e. Other k (e .0)) es → erase k es ≡ es
-erase-none k [] h = refl
-erase-none k (e ∷ es) h = rw (h .0, erase-none k es (h .1))
-
 erase-beside : {A : Type 0} (k : Key) (b : Bool) (near far : List (Key × A)) → All (λ e. Other k (e .0)) far
     → erase k (beside b near far) ≡ beside b (erase k near) far
 erase-beside k false [] far h = erase-none k far h
@@ -93,16 +85,6 @@ erase-beside k false (e ∷ near) far h = go (same k (e .0)) (erase-beside k fal
     go false z = rw z
 erase-beside k true near [] h = refl
 erase-beside k true near (e ∷ far) h = rw (h .0, erase-beside k true near far (h .1))
-
--- one entry less, if the key is there
-pub length-erase : {A : Type 0} (k : Key) (es : List (Key × A)) → length es ≡ cond (held k es) (suc (length (erase k es))) (length (erase k es))
-length-erase k [] = refl
-length-erase k (e ∷ es) = go (testb (same k (e .0))) (length-erase k es)
-  where
-    go : Bit (same k (e .0)) → length es ≡ cond (held k es) (suc (length (erase k es))) (length (erase k es))
-        → suc (length es) ≡ cond (held k (e ∷ es)) (suc (length (erase k (e ∷ es)))) (length (erase k (e ∷ es)))
-    go (inl s) z = rw s
-    go (inr s) z = rw s (ap suc z ∙ through suc (held k es) (suc (length (erase k es))) (length (erase k es)))
 
 -- ---- the entries
 

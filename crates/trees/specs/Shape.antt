@@ -8,8 +8,8 @@ use Prim.Native.Nat.{ℕ, zero, suc, _≤_, min}
 use native.Mathlib.Omega.{arith}
 use lib.ListN.{length, length-append}
 use Rattle.keys.specs.declared.Key.{Key}
+use Rattle.lists.specs.Lists.{All, Pairs, all-map}
 use Rattle.trees.specs.Keys.{shared, bit, turn, ultra, apart}
-use Rattle.trees.specs.Lists.{All, Pairs, all-map}
 use Rattle.trees.specs.Tree.{Tree, leaf, inner, keysOf, gather-some, Each, each-map, first, each-first, Side, Ordered}
 
 pub data Shape : Type 0 where

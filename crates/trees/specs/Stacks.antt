@@ -9,9 +9,10 @@ use native.Mathlib.Omega.{arith}
 use lib.Dec.{eqb}
 use lib.ListN.{length}
 use Rattle.keys.specs.declared.Key.{Key}
+use Rattle.lists.specs.Lists.{All, all-append}
+use Rattle.lists.specs.Entries.{listEnd}
 use Rattle.trees.specs.Keys.{chosen}
-use Rattle.trees.specs.Lists.{All, all-append}
-use Rattle.trees.specs.Ends.{endOf, end-beside}
+use Rattle.trees.specs.Ends.{end-beside}
 use Rattle.trees.specs.Tree.{Tree, leaf, inner, prefixOf, Ordered, prefix-low}
 use Rattle.trees.specs.Paths.{rising}
 use Rattle.trees.specs.Map.{Map, OrderedMap}
@@ -26,7 +27,7 @@ passed false (inner i k p l r) s = (l ∷ r ∷ s) ∷ passed false l (r ∷ s)
 passed true (inner i k p l r) s = (r ∷ l ∷ s) ∷ passed true r (l ∷ s)
 
 -- the last of them is the stack that the step leaves
-pub passed-last : (b : Bool) (t : Tree) (s : List Tree) → endOf true (passed b t s) ≡ some (popped b t s .1)
+pub passed-last : (b : Bool) (t : Tree) (s : List Tree) → listEnd true (passed b t s) ≡ some (popped b t s .1)
 passed-last b (leaf i k v) s = refl
 passed-last false (inner i k p l r) s = end-beside true (passed false l (r ∷ s)) ((l ∷ r ∷ s) ∷ []) (passed-last false l (r ∷ s))
 passed-last true (inner i k p l r) s = end-beside true (passed true r (l ∷ s)) ((r ∷ l ∷ s) ∷ []) (passed-last true r (l ∷ s))

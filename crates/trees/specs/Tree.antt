@@ -8,8 +8,9 @@ use native.Mathlib.Omega.{arith}
 use lib.ListN.{length, length-append}
 use Rattle.keys.specs.declared.Key.{Key}
 use Rattle.keys.specs.Number.{numberOf, Fits}
+use Rattle.lists.specs.Lists.{All, all-append, pairs-append, across}
+use Rattle.lists.specs.Entries.{Before, Rising}
 use Rattle.trees.specs.Keys.{shared, bit, turn, ultra, order}
-use Rattle.trees.specs.Lists.{All, Pairs, all-append, pairs-append, across}
 use Rattle.trees.specs.Ends.{beside}
 
 -- A node is known by its index; a leaf names a value record.
@@ -151,12 +152,6 @@ pub ordered-fork : (i : ℕ) {k : Key} {p : ℕ} (b : Bool) (near far : Tree) �
     → Ordered near → Ordered far → Ordered (fork i k p b near far)
 ordered-fork i false near far f h n m x y = record { fits = f; low = h; left = n; right = m; onLeft = x; onRight = y }
 ordered-fork i true near far f h n m x y = record { fits = f; low = h; left = m; right = n; onLeft = y; onRight = x }
-
-abbrev pub Before : {A : Type 0} → Key × A → Key × A → Type 0
-Before x y = numberOf (x .0) < numberOf (y .0)
-
-abbrev pub Rising : {A : Type 0} → List (Key × A) → Type 0
-Rising es = Pairs Before es
 
 pub sides : (k : Key) (p : ℕ) {a b : Key} → Fits a → Side k p false a → Side k p true b → numberOf a < numberOf b
 sides k p {a} {b} f x y = order b f (omega (arith, x .shares, y .shares, turn k a, ultra a k b)) (x .turns) (y .turns)

@@ -8,11 +8,11 @@ use Prim.Native.Nat.{ℕ}
 use lib.Dec.{ltb}
 use Rattle.keys.specs.declared.Key.{Key}
 use Rattle.keys.specs.Number.{numberOf}
-use Rattle.trees.specs.Keys.{same, chosen}
-use Rattle.trees.specs.Lists.{All, Pairs}
+use Rattle.lists.specs.Lists.{All, Pairs}
+use Rattle.lists.specs.Entries.{same, erase}
+use Rattle.trees.specs.Keys.{chosen}
 use Rattle.trees.specs.Ends.{beside, all-beside, pairs-beside}
 use Rattle.trees.specs.Insert.{put}
-use Rattle.trees.specs.Remove.{erase}
 
 -- a key and the index of its value record
 abbrev pub Entry : Type 0

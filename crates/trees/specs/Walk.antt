@@ -9,11 +9,10 @@ use mathlib.Core.List.{List, [], _∷_, _++_, map, append-nil, nil≢cons}
 use Prim.Native.Nat.{ℕ}
 use lib.Dec.{eqb}
 use borrow.Author.Tests.{eq-eqb, ne-eqb}
-use Rattle.trees.specs.Lists.{All}
+use Rattle.lists.specs.Lists.{All}
+use Rattle.lists.specs.Entries.{listEnd, restOf}
 use Rattle.trees.specs.Ends.{
   beside,
-  endOf,
-  restOf,
   beside-nil,
   beside-turned,
   beside-beside,
@@ -83,7 +82,7 @@ step b w = cond (w .ended) (none, w) (move b w)
 
 -- from the ascending list the step of a side takes the first entry, or the last
 abbrev pub taken : {A : Type 0} → Bool → List A → Option A × List A
-taken b xs = (endOf b xs, restOf b xs)
+taken b xs = (listEnd b xs, restOf b xs)
 
 -- the answers of a run of steps, one for each side asked
 abbrev pub run : {S A : Type 0} → (Bool → S → Option A × S) → S → List Bool → List (Option A)
@@ -110,7 +109,7 @@ valueAt (some x) = x .1
 
 pub record At (b : Bool) (e : End) (mid own other : List Entry) : Type 0 where
   pub ahead : spread b (e .stack) ≡ beside b mid other
-  pub latest : e .last ≡ valueAt (endOf (not b) own)
+  pub latest : e .last ≡ valueAt (listEnd (not b) own)
   pub numbered : Numbered (spread b (e .stack))
 
 -- nothing is left: no answer, and the end has met the other one or stays as it is; or the entry at the side's end is given
@@ -121,22 +120,22 @@ Outcome b e mid own other r =
     × At b (r .1) rest (beside (not b) (x ∷ []) own) other)
 
 -- an entry that differs from all that the other end gave is not what it gave last
-unlike : (b : Bool) (v : ℕ) (es : List Entry) → v ≢ 0 → All (λ y. v ≢ y .1) es → v ≢ valueAt (endOf b es)
+unlike : (b : Bool) (v : ℕ) (es : List Entry) → v ≢ 0 → All (λ y. v ≢ y .1) es → v ≢ valueAt (listEnd b es)
 unlike b v es z h = go (ends b es)
   where
-    go : Ends b es → v ≢ valueAt (endOf b es)
+    go : Ends b es → v ≢ valueAt (listEnd b es)
     go (inl e) = rw e z
     go (inr (y, rest, e)) =
-        let f : endOf b es ≡ some y = ap (endOf b) e ∙ end-lone b y rest in
+        let f : listEnd b es ≡ some y = ap (listEnd b) e ∙ end-lone b y rest in
         rw f (all-end (λ y. v ≢ y .1) b es h f)
 
 outcome : (b : Bool) (s : List Tree) (last met : ℕ) (mid own other : List Entry) → At b (record { stack = s; last = last }) mid own other
-    → met ≡ valueAt (endOf b other) → Outcome b (record { stack = s; last = last }) mid own other (next b s last met)
+    → met ≡ valueAt (listEnd b other) → Outcome b (record { stack = s; last = last }) mid own other (next b s last met)
 outcome b [] last met mid own other a q = go (ends b mid)
   where
     go : Ends b mid → Outcome b (record { stack = []; last = last }) mid own other (next b [] last met)
     go (inl e) = inl (e, refl, inr (refl, refl))
-    go (inr (x, rest, e)) = absurd (Option·none-ne-some x (ap (endOf b) (a .ahead) ∙ end-beside b mid other (ap (endOf b) e ∙ end-lone b x rest)))
+    go (inr (x, rest, e)) = absurd (Option·none-ne-some x (ap (listEnd b) (a .ahead) ∙ end-beside b mid other (ap (listEnd b) e ∙ end-lone b x rest)))
 outcome b (t ∷ s) last met mid own other a q = go (ends b mid)
   where
     x : Entry
@@ -154,15 +153,15 @@ outcome b (t ∷ s) last met mid own other a q = go (ends b mid)
     go : Ends b mid → Outcome b (record { stack = t ∷ s; last = last }) mid own other (next b (t ∷ s) last met)
     go (inl e) =
         let o : other ≡ beside b (x ∷ []) below = sym (beside-nil b other) ∙ ap (λ m. beside b m other) (sym e) ∙ sym all in
-        let m : met ≡ x .1 = q ∙ ap valueAt (ap (endOf b) o ∙ end-lone b x below) in
+        let m : met ≡ x .1 = q ∙ ap valueAt (ap (listEnd b) o ∙ end-lone b x below) in
         rw (eq-eqb (x .1) met (sym m)) (inl (e, refl, inl refl))
     go (inr (y, rest, e)) =
         let f : beside b (x ∷ []) below ≡ beside b (y ∷ []) (beside b rest other) = all ∙ ap (λ m. beside b m other) e ∙ beside-beside b (y ∷ []) rest other in
-        let same : x ≡ y = Option·some-injective x y (sym (end-lone b x below) ∙ ap (endOf b) f ∙ end-lone b y (beside b rest other)) in
+        let same : x ≡ y = Option·some-injective x y (sym (end-lone b x below) ∙ ap (listEnd b) f ∙ end-lone b y (beside b rest other)) in
         let tail : below ≡ beside b rest other = sym (rest-lone b x below) ∙ ap (restOf b) f ∙ rest-lone b y (beside b rest other) in
         let far = all-beside (Unlike x) b rest other (subst (All (Unlike x)) tail (n .1)) .1 in
         let d : x .1 ≢ met = λ h. unlike b (x .1) other (n .0) far (h ∙ q) in
-        let l : x .1 ≡ valueAt (endOf (not b) (beside (not b) (x ∷ []) own)) = sym (ap valueAt (end-lone (not b) x own)) in
+        let l : x .1 ≡ valueAt (listEnd (not b) (beside (not b) (x ∷ []) own)) = sym (ap valueAt (end-lone (not b) x own)) in
         rw (ne-eqb (x .1) met d) (inr (x, rest, e ∙ ap (λ z. beside b (z ∷ []) rest) (sym same), refl, refl, record { ahead = tail; latest = l; numbered = n .2 }))
 
 -- An end's stack runs empty only when it has given every entry itself.
@@ -215,7 +214,7 @@ has-ended true near far ended = refl
 
 -- what a step must answer and leave, where mid is left
 abbrev pub Answers : Bool → List Entry → Option Entry × Position → Type 0
-Answers b mid z = (z .0 ≡ endOf b mid) × Stands (z .1) (restOf b mid)
+Answers b mid z = (z .0 ≡ listEnd b mid) × Stands (z .1) (restOf b mid)
 
 move-stands : (b : Bool) (w : Position) (mid : List Entry) → Standing w mid → Answers b mid (move b w)
 move-stands b w mid h = go (seen b w mid h)
@@ -233,19 +232,19 @@ move-stands b w mid h = go (seen b w mid h)
     w′ = position b (r .1) far (r .2)
 
     end : (own other : List Entry) → At b near mid own other → At (not b) far mid other own → Outcome b near mid own other r → Answers b mid (r .0, w′)
-    end own other a c (inl (z, e, inl m)) = (e ∙ sym (ap (endOf b) z), inl (has-ended b (r .1) far (r .2) ∙ m, ap (restOf b) z))
+    end own other a c (inl (z, e, inl m)) = (e ∙ sym (ap (listEnd b) z), inl (has-ended b (r .1) far (r .2) ∙ m, ap (restOf b) z))
     end own other a c (inl (z, e, inr (s, m))) =
         let h = standing b (r .1) far (r .2) mid own other m (subst (λ n. At b n mid own other) (sym s) a) c in
-        (e ∙ sym (ap (endOf b) z), inr (subst (Standing w′) (z ∙ sym (ap (restOf b) z)) h))
+        (e ∙ sym (ap (listEnd b) z), inr (subst (Standing w′) (z ∙ sym (ap (restOf b) z)) h))
     end own other a c (inr (x, rest, f, e, m, a′)) =
         let h = standing b (r .1) far (r .2) rest (beside (not b) (x ∷ []) own) other m a′ (stays b far mid own other x rest f c) in
-        (e ∙ sym (ap (endOf b) f ∙ end-lone b x rest), inr (subst (Standing w′) (sym (ap (restOf b) f ∙ rest-lone b x rest)) h))
+        (e ∙ sym (ap (listEnd b) f ∙ end-lone b x rest), inr (subst (Standing w′) (sym (ap (restOf b) f ∙ rest-lone b x rest)) h))
 
     go : (own : List Entry) × (other : List Entry) × At b near mid own other × At (not b) far mid other own → Answers b mid (r .0, w′)
     go (own, other, a, c) = end own other a c (outcome b (near .stack) (near .last) (far .last) mid own other a (rw Bool·not-not at (c .latest)))
 
 pub step-stands : (b : Bool) (w : Position) (mid : List Entry) → Stands w mid → Answers b mid (step b w)
-step-stands b w mid (inl (e, z)) = subst (λ t. Answers b mid (cond t (none, w) (move b w))) (sym e) (sym (ap (endOf b) z), inl (e, ap (restOf b) z))
+step-stands b w mid (inl (e, z)) = subst (λ t. Answers b mid (cond t (none, w) (move b w))) (sym e) (sym (ap (listEnd b) z), inl (e, ap (restOf b) z))
 step-stands b w mid (inr h) = subst (λ t. Answers b mid (cond t (none, w) (move b w))) (sym (h .on)) (move-stands b w mid h)
 
 run-stands : (w : Position) (mid : List Entry) (sides : List Bool) → Stands w mid → run step w sides ≡ run taken mid sides
