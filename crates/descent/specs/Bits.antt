@@ -1,4 +1,4 @@
--- The descent by a key's bits alone, to the leaf that they lead to. Remove compares that leaf's key. The smallest entry is where the bits of 0 lead, and the largest where those of 2^128 - 1 do.
+-- The descent by a key's bits alone. The smallest entry is where the bits of 0 lead, and the largest where those of 2^128 - 1 do.
 use mathlib.Core.Path.{_≡_, refl, sym}
 use mathlib.Core.List.{List}
 use mathlib.Core.Logic.{⊎-elim}
@@ -18,45 +18,18 @@ use Rattle.records.specs.declared.NodeIndex.{NodeIndex}
 use Rattle.records.specs.Records.{nodeOf}
 use Rattle.inspection.specs.Tests.{nodeOk}
 use Rattle.descent.specs.declared.Stop.{Stop}
-use Rattle.descent.specs.declared.Stop.the-variants.{Leaf, Parted, Damaged}
-use Rattle.descent.specs.declared.Step.{Step}
-use Rattle.descent.specs.declared.Step.the-variants.{Down, Halt}
-use Rattle.descent.specs.Descent.{isInner, childOf, reachTurn, sideOf, endTurn, stepOf, follow, descend}
-use Rattle.descent.specs.Laws.{Turns, went-down, passed}
-
-unfoldable pub bitsTurn : Key → NodeIndex → Node → Step
-bitsTurn key i x = cond (isInner x) (Down (childOf key x) (x .prefix + 1)) (Halt (Leaf i (x .value)))
+use Rattle.descent.specs.declared.Stop.the-variants.{Leaf, Damaged}
+use Rattle.descent.specs.declared.Turn.{Turn}
+use Rattle.descent.specs.declared.Turn.the-variants.{Down, Halt}
+use Rattle.descent.specs.Descent.{isInner, childOf, bitsTurn, sideOf, endTurn, turnAt, follow, descend, noNode, fromRoot, leafOf, endOf}
+use Rattle.inspection.specs.Visit.{passed}
+use Rattle.descent.specs.Laws.{Turns, went-down}
 
 pub bits-turns : (key : Key) → Turns (bitsTurn key)
 unfolding bitsTurn
 bits-turns key i x c p e =
     let d = went-down (isInner x) _ _ _ _ _ e in
     (eqb-true (x .value .0) 0 (d .0), d .1)
-
--- ---- remove's descent: the leaf's key is compared where the bits have led
-
-unfoldable pub compared : Key → List ℕ → Stop → Stop
-compared key ws (Leaf i j) = cond (eqb (numberOf key) (numberOf (nodeOf ws (i .0) .key))) (Leaf i j) (Parted i)
-compared key ws (Parted i) = Parted i
-compared key ws Damaged = Damaged
-
-module _ (key : Key) (h : Header) (ws : List ℕ) where
-  pub reaches : (fuel : ℕ) (i above : NodeIndex) (low : ℕ) → compared key ws (descend (bitsTurn key) fuel h ws i above low) ≡ descend (reachTurn key) fuel h ws i above low
-  unfolding descend stepOf bitsTurn reachTurn compared
-  reaches zero i above low = refl
-  reaches (suc fuel) i above low =
-      go (nodeOk h (i .0) (above .0) low (nodeOf ws (i .0))) (isInner (nodeOf ws (i .0))) (eqb (numberOf key) (numberOf (nodeOf ws (i .0) .key))) refl
-      (reaches fuel (childOf key (nodeOf ws (i .0))) i (nodeOf ws (i .0) .prefix + 1))
-    where
-      go : (ok inner same : Bool) → eqb (numberOf key) (numberOf (nodeOf ws (i .0) .key)) ≡ same
-          → compared key ws (descend (bitsTurn key) fuel h ws (childOf key (nodeOf ws (i .0))) i (nodeOf ws (i .0) .prefix + 1))
-          ≡ descend (reachTurn key) fuel h ws (childOf key (nodeOf ws (i .0))) i (nodeOf ws (i .0) .prefix + 1)
-          → compared key ws (follow (λ c next. descend (bitsTurn key) fuel h ws c i next) (cond ok (cond inner (Down (childOf key (nodeOf ws (i .0))) (nodeOf ws (i .0) .prefix + 1)) (Halt (Leaf i (nodeOf ws (i .0) .value)))) (Halt Damaged)))
-          ≡ follow (λ c next. descend (reachTurn key) fuel h ws c i next) (cond ok (cond inner (Down (childOf key (nodeOf ws (i .0))) (nodeOf ws (i .0) .prefix + 1)) (cond same (Halt (Leaf i (nodeOf ws (i .0) .value))) (Halt (Parted i)))) (Halt Damaged))
-      go false inner same e on = refl
-      go true true same e on = on
-      go true false true e on = rw e
-      go true false false e on = rw e
 
 -- ---- the way to an end
 
@@ -91,19 +64,23 @@ all-bits true p l = among-first true 128 p refl l
 
 module _ (right : Bool) (h : Header) (ws : List ℕ) where
   pub ends : (fuel : ℕ) (i above : NodeIndex) (low : ℕ) → descend (bitsTurn (allBits right)) fuel h ws i above low ≡ descend (endTurn right) fuel h ws i above low
-  unfolding descend stepOf bitsTurn endTurn childOf
+  unfolding descend turnAt bitsTurn endTurn childOf
   ends zero i above low = refl
-  ends (suc fuel) i above low = go (nodeOk h (i .0) (above .0) low (nodeOf ws (i .0))) refl (isInner (nodeOf ws (i .0))) refl (ends fuel (sideOf right (nodeOf ws (i .0))) i (nodeOf ws (i .0) .prefix + 1))
+  ends (suc fuel) i above low = go (nodeOk h ws (i .0) (above .0) low) refl (isInner (nodeOf ws (i .0))) refl (ends fuel (sideOf right (nodeOf ws (i .0))) i (nodeOf ws (i .0) .prefix + 1))
     where
-      go : (ok : Bool) → nodeOk h (i .0) (above .0) low (nodeOf ws (i .0)) ≡ ok → (inner : Bool) → isInner (nodeOf ws (i .0)) ≡ inner
+      go : (ok : Bool) → nodeOk h ws (i .0) (above .0) low ≡ ok → (inner : Bool) → isInner (nodeOf ws (i .0)) ≡ inner
           → descend (bitsTurn (allBits right)) fuel h ws (sideOf right (nodeOf ws (i .0))) i (nodeOf ws (i .0) .prefix + 1)
           ≡ descend (endTurn right) fuel h ws (sideOf right (nodeOf ws (i .0))) i (nodeOf ws (i .0) .prefix + 1)
           → follow (λ c next. descend (bitsTurn (allBits right)) fuel h ws c i next)
-          (cond ok (cond inner (Down (cond (bitOf (numberOf (allBits right)) (nodeOf ws (i .0) .prefix)) (nodeOf ws (i .0) .right) (nodeOf ws (i .0) .left)) (nodeOf ws (i .0) .prefix + 1)) (Halt (Leaf i (nodeOf ws (i .0) .value)))) (Halt Damaged))
+          (cond ok (cond inner (Down (cond (bitOf (numberOf (allBits right)) (nodeOf ws (i .0) .prefix)) (nodeOf ws (i .0) .right) (nodeOf ws (i .0) .left)) (nodeOf ws (i .0) .prefix + 1)) (Halt (Leaf i (nodeOf ws (i .0))))) (Halt Damaged))
           ≡ follow (λ c next. descend (endTurn right) fuel h ws c i next)
-          (cond ok (cond inner (Down (sideOf right (nodeOf ws (i .0))) (nodeOf ws (i .0) .prefix + 1)) (Halt (Leaf i (nodeOf ws (i .0) .value)))) (Halt Damaged))
+          (cond ok (cond inner (Down (sideOf right (nodeOf ws (i .0))) (nodeOf ws (i .0) .prefix + 1)) (Halt (Leaf i (nodeOf ws (i .0))))) (Halt Damaged))
       go false t inner v on = refl
       go true t false v on = refl
       go true t true v on =
-          let p : nodeOf ws (i .0) .prefix < 128 = passed h (i .0) (above .0) low (nodeOf ws (i .0)) t .inner (eqb-true (nodeOf ws (i .0) .value .0) 0 v) in
+          let p : nodeOf ws (i .0) .prefix < 128 = passed h ws (i .0) (above .0) low t .inner (eqb-true (nodeOf ws (i .0) .value .0) 0 v) in
           rw (all-bits right (nodeOf ws (i .0) .prefix) p) on
+
+  pub end-bits : leafOf h ws (allBits right) ≡ endOf h ws right
+  unfolding fromRoot
+  end-bits = rw (ends 129 (h .root) noNode 0)

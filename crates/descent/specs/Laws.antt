@@ -3,7 +3,7 @@
 use mathlib.Core.Path.{_≡_, refl, sym, ap, _∙_}
 use mathlib.Core.List.{List}
 use mathlib.Core.Bool.{Bool, true, false, cond}
-use mathlib.Core.Logic.{⊎-elim}
+use mathlib.Core.Logic.{_⊎_, ⊎-elim}
 use Prim.Native.Nat.{ℕ, zero, suc, _+_, _≤_, _<_}
 use native.Mathlib.Omega.{arith}
 use lib.Dec.{eqb, leb, ltb}
@@ -16,40 +16,19 @@ use Rattle.records.specs.declared.Header.{Header}
 use Rattle.records.specs.declared.Node.{Node}
 use Rattle.records.specs.declared.NodeIndex.{NodeIndex}
 use Rattle.records.specs.Records.{nodeOf}
-use Rattle.inspection.specs.Tests.{usedNode, leafForm, innerForm, formOk, nodeOk}
+use Rattle.inspection.specs.Tests.{nodeOk}
+use Rattle.inspection.specs.declared.Visited.the-variants.{Inner}
+use Rattle.inspection.specs.declared.Visited.the-variants as visited
+use Rattle.inspection.specs.Visit.{visitOf, came-through, came-node, came-damaged, Passed, passed}
 use Rattle.descent.specs.declared.Stop.{Stop}
 use Rattle.descent.specs.declared.Stop.the-variants.{Damaged}
-use Rattle.descent.specs.declared.Step.{Step}
-use Rattle.descent.specs.declared.Step.the-variants.{Down, Halt}
-use Rattle.descent.specs.Descent.{isInner, lookupTurn, stepOf, follow, descend}
-
--- ---- what a passed visited-node test tells of the prefix length
-
-pub record Passed (low : ℕ) (x : Node) : Type 0 where
-  pub rises : low ≤ x .prefix
-  pub small : x .prefix ≤ 128
-  pub inner : x .value .0 ≡ 0 → x .prefix < 128
-
-leaf-passed : (h : Header) (low : ℕ) (x : Node) → low ≤ x .prefix → leafForm h x ≡ true → Passed low x
-leaf-passed h low x l e =
-    let p : x .prefix ≡ 128 = eqb-true (x .prefix) 128 (search (and-l, and-r)) in
-    let v : 1 ≤ x .value .0 = leb-true 1 (x .value .0) (search (and-l, and-r)) in
-    record { rises = l; small = omega arith; inner = λ z. omega arith }
-
-inner-passed : (low : ℕ) (x : Node) → low ≤ x .prefix → innerForm x ≡ true → Passed low x
-inner-passed low x l e =
-    let p : x .prefix < 128 = ltb-true (x .prefix) 128 (search (and-l, and-r)) in
-    record { rises = l; small = omega arith; inner = λ z. p }
-
-pub passed : (h : Header) (i above low : ℕ) (x : Node) → nodeOk h i above low x ≡ true → Passed low x
-unfolding nodeOk formOk
-passed h i above low x e =
-    let l : low ≤ x .prefix = leb-true low (x .prefix) (search (and-l, and-r)) in
-    ⊎-elim (leaf-passed h low x l) (inner-passed low x l) (or-cases (leafForm h x) (innerForm x) (search (and-l, and-r) depth 8))
+use Rattle.descent.specs.declared.Turn.{Turn}
+use Rattle.descent.specs.declared.Turn.the-variants.{Down, Halt}
+use Rattle.descent.specs.Descent.{isInner, sharedWith, lookupTurn, turnAt, follow, descend}
 
 -- ---- a turn goes down from an inner node alone, and to the next longer prefix
 
-abbrev pub Turns : (NodeIndex → Node → Step) → Type 0
+abbrev pub Turns : (NodeIndex → Node → Turn) → Type 0
 Turns turn = (i : NodeIndex) (x : Node) (c : NodeIndex) (p : ℕ) → turn i x ≡ Down c p → (x .value .0 ≡ 0) × (x .prefix + 1 ≡ p)
 
 never-down : {s : Stop} {c : NodeIndex} {p : ℕ} → Halt s ≡ Down c p → ⊥
@@ -59,33 +38,33 @@ pub went-down : (inner : Bool) (c₀ c : NodeIndex) (p₀ p : ℕ) (s : Stop) �
 went-down true c₀ c p₀ p s e = (refl, cc)
 went-down false c₀ c p₀ p s e = absurd (never-down e)
 
-past-test : (b : Bool) (s : Stop) (t : Step) (c : NodeIndex) (p : ℕ) → cond b (Halt s) t ≡ Down c p → t ≡ Down c p
+past-test : (b : Bool) (s : Stop) (t : Turn) (c : NodeIndex) (p : ℕ) → cond b (Halt s) t ≡ Down c p → t ≡ Down c p
 past-test true s t c p e = absurd (never-down e)
 past-test false s t c p e = e
 
 pub lookup-turns : (key : Key) → Turns (lookupTurn key)
 unfolding lookupTurn
 lookup-turns key i x c p e =
-    let d = went-down (isInner x) _ _ _ _ _ (past-test (ltb (common (numberOf key) (numberOf (x .key))) (x .prefix)) _ _ c p e) in
+    let d = went-down (isInner x) _ _ _ _ _ (past-test (ltb (sharedWith key x) (x .prefix)) _ _ c p e) in
     (eqb-true (x .value .0) 0 (d .0), d .1)
 
 -- ---- a step of any descent
 
-module _ (turn : NodeIndex → Node → Step) (turns : Turns turn) (h : Header) (ws : List ℕ) (i above : NodeIndex) (low : ℕ) where
+module _ (turn : NodeIndex → Node → Turn) (turns : Turns turn) (h : Header) (ws : List ℕ) (i above : NodeIndex) (low : ℕ) where
   -- it goes to a longer prefix, at most 128
-  pub rises : (c : NodeIndex) (p : ℕ) → stepOf turn h ws i above low ≡ Down c p → (low < p) × (p ≤ 128)
-  unfolding stepOf
-  rises c p e = go (nodeOk h (i .0) (above .0) low (nodeOf ws (i .0))) refl e
+  pub rises : (c : NodeIndex) (p : ℕ) → turnAt turn h ws i above low ≡ Down c p → (low < p) × (p ≤ 128)
+  unfolding turnAt
+  rises c p e = go (nodeOk h ws (i .0) (above .0) low) refl e
     where
-      go : (b : Bool) → nodeOk h (i .0) (above .0) low (nodeOf ws (i .0)) ≡ b → cond b (turn i (nodeOf ws (i .0))) (Halt Damaged) ≡ Down c p → (low < p) × (p ≤ 128)
+      go : (b : Bool) → nodeOk h ws (i .0) (above .0) low ≡ b → cond b (turn i (nodeOf ws (i .0))) (Halt Damaged) ≡ Down c p → (low < p) × (p ≤ 128)
       go false t d = absurd (never-down d)
       go true t d =
-          let k = passed h (i .0) (above .0) low (nodeOf ws (i .0)) t in
+          let k = passed h ws (i .0) (above .0) low t in
           let q = turns i (nodeOf ws (i .0)) c p d in
           omega (arith, k .rises, k .inner (q .0), q .1)
 
   module _ (whole : Stop) (fuel : ℕ) (enough : 129 ≤ fuel + low) (small : low ≤ 128) (rest : descend turn fuel h ws i above low ≡ whole) where
-    pub again : (c : NodeIndex) (p : ℕ) → stepOf turn h ws i above low ≡ Down c p
+    pub again : (c : NodeIndex) (p : ℕ) → turnAt turn h ws i above low ≡ Down c p
         → (f : ℕ) × (129 ≤ f + p) × (descend turn f h ws c i p ≡ whole)
     unfolding descend
     again c p e = go fuel enough rest
@@ -94,10 +73,25 @@ module _ (turn : NodeIndex → Node → Step) (turns : Turns turn) (h : Header) 
         go zero n r = absurd (omega arith)
         go (suc g) n r = (g, omega (arith, rises c p e), sym (ap (follow (λ d next. descend turn g h ws d i next)) e) ∙ r)
 
-    pub halts : (s : Stop) → stepOf turn h ws i above low ≡ Halt s → s ≡ whole
+    pub halts : (s : Stop) → turnAt turn h ws i above low ≡ Halt s → s ≡ whole
     unfolding descend
     halts s e = go fuel enough rest
       where
         go : (f : ℕ) → 129 ≤ f + low → descend turn f h ws i above low ≡ whole → s ≡ whole
         go zero n r = absurd (omega arith)
         go (suc g) n r = sym (ap (follow (λ d next. descend turn g h ws d i next)) e) ∙ r
+
+-- ---- a turn by what a visit came to
+
+module _ (turn : NodeIndex → Node → Turn) (h : Header) (ws : List ℕ) (i above : NodeIndex) (low : ℕ) where
+  pub turn-node : (x : Node) → (visitOf h ws (i .0) (above .0) low ≡ Inner x) ⊎ (visitOf h ws (i .0) (above .0) low ≡ visited.Leaf x)
+      → (turnAt turn h ws i above low ≡ turn i x) × (x ≡ nodeOf ws (i .0)) × Passed low x
+  unfolding turnAt
+  turn-node x e =
+      let ok = came-through h ws (i .0) (above .0) low x e in
+      let same = came-node h ws (i .0) (above .0) low x e in
+      (rw (ok, same), same, rw same (passed h ws (i .0) (above .0) low ok))
+
+  pub turn-damaged : visitOf h ws (i .0) (above .0) low ≡ visited.Damaged → turnAt turn h ws i above low ≡ Halt Damaged
+  unfolding turnAt
+  turn-damaged e = rw (came-damaged h ws (i .0) (above .0) low e)

@@ -2,4 +2,3 @@
 pub mod Descent
 pub mod Laws
 pub mod Bits
-pub mod ByKind

@@ -1,101 +1,87 @@
--- The words that insert leaves, and its answer: the Rust's steps in the Rust's order (`add_leaf`, `duplicate`, `replace_node` and `_insert` of critbit.rs).
+-- The words that insert leaves, and its answer: rules S5 to S9. The records are taken in the Rust's order, the new leaf's node, its value record, the copy's
+-- node; then each record that changes is stored as a whole, so that the words are those that `add_leaf`, `duplicate` and `replace_node` of critbit.rs leave.
 use mathlib.Core.List.{List}
 use mathlib.Core.Bool.{cond}
 use Prim.Native.Nat.{ℕ}
 use lib.ListN.{set}
 use Rattle.keys.specs.declared.Key.{Key}
 use Rattle.keys.specs.Number.{numberOf}
-use Rattle.keys.specs.Common.{common, bitOf}
+use Rattle.keys.specs.Common.{bitOf}
 use Rattle.node_allocator.specs.declared.Arena.the-variants.{Nodes, Values}
-use Rattle.node_allocator.specs.declared.Field.the-variants as field
-use Rattle.node_allocator.specs.Steps.{setRegister, clearRegister, connected, addIndex, addImage}
+use Rattle.node_allocator.specs.declared.Register.the-variants as register
+use Rattle.node_allocator.specs.Steps.{setRegister, addCounts, addImage}
+use Rattle.records.specs.declared.Header.{Header}
+use Rattle.records.specs.declared.Node.{Node}
 use Rattle.records.specs.declared.Value.{Value}
-use Rattle.records.specs.declared.Content.{Content}
 use Rattle.inspection.specs.declared.Opened.{Opened}
 use Rattle.inspection.specs.declared.Opened.the-variants.{Good, Shut}
 use Rattle.records.specs.declared.Place.{Place}
 use Rattle.records.specs.declared.Place.the-variants as place
-use Rattle.records.specs.Records.{nodeOf, contentOf}
+use Rattle.records.specs.Records.{leafNode, innerNode, withParent}
+use Rattle.records.specs.Writes.{setNode, liveRecord, setValue}
 use Rattle.inspection.specs.Opening.{openOf}
-use Rattle.records.specs.Writes.{setContent, setValue}
 use Rattle.insert.specs.declared.Plan.{Plan}
 use Rattle.insert.specs.declared.Plan.the-variants.{First, Replace, Split, Refused}
-use Rattle.insert.specs.Plan.{planOf}
+use Rattle.insert.specs.Plan.{insertPlan}
 
-abbrev pub contentFrom : Key → ℕ → Content
-contentFrom key prefix = record { key = key; prefix = prefix; padding = 0 }
+-- ---- the records that are taken: they are the heads of the header h
 
--- ---- add_leaf: the new leaf node, then its value record
+-- the leaf's node, and its value record, which holds the value
+unfoldable pub leafTaken : ℕ → ℕ → List ℕ → Header → Value → List ℕ
+leafTaken m n ws h v =
+    setValue m n (addImage (Values n m) (addImage (Nodes n) ws (h .nodes)) (h .values)) (h .values .head) (liveRecord (h .nodes .head) v)
 
--- the node is taken and holds the key
-unfoldable pub leafTaken : ℕ → List ℕ → Key → List ℕ
-leafTaken n ws key = setContent n (addImage (Nodes n) ws) (addIndex (Nodes n) ws) (contentFrom key 128)
+-- the copy's node is the head once the leaf's is taken
+unfoldable pub copyIndex : ℕ → List ℕ → Header → ℕ
+copyIndex n ws h = addCounts (Nodes n) ws (h .nodes) .head
 
--- the value record is taken and holds the value
-unfoldable pub valueTaken : ℕ → ℕ → List ℕ → Value → List ℕ
-valueTaken m n ws v = setValue m n (addImage (Values n m) ws) (addIndex (Values n m) ws) v
-
-unfoldable pub leafAdded : ℕ → ℕ → List ℕ → Key → Value → List ℕ
-leafAdded m n ws key v =
-    setRegister (Nodes n) (valueTaken m n (leafTaken n ws key) v) (addIndex (Nodes n) ws) (addIndex (Values n m) (leafTaken n ws key)) field.Value
-
--- ---- duplicate: a copy of node i, its children named by it
-
--- the copy is taken and holds what node i holds
-unfoldable pub copyTaken : ℕ → List ℕ → ℕ → List ℕ
-copyTaken n ws i =
-    setRegister (Nodes n) (setContent n (addImage (Nodes n) ws) (addIndex (Nodes n) ws) (contentOf (nodeOf ws i))) (addIndex (Nodes n) ws) (nodeOf ws i .value .0) field.Value
-
--- node i's children are l and r, on their sides
-unfoldable pub hung : ℕ → List ℕ → ℕ → ℕ → ℕ → List ℕ
-hung n ws i l r = connected (Nodes n) (connected (Nodes n) ws i l field.Left field.Parent) i r field.Right field.Parent
-
-unfoldable pub duplicated : ℕ → List ℕ → ℕ → List ℕ
-duplicated n ws i = hung n (copyTaken n ws i) (addIndex (Nodes n) ws) (nodeOf ws i .left .0) (nodeOf ws i .right .0)
-
--- ---- replace_node: node i becomes inner, with the new key, the shared length, and both as children
-
-unfoldable pub replaced : ℕ → List ℕ → ℕ → Key → ℕ → ℕ → ℕ → List ℕ
-replaced n ws i key shared l r = hung n (clearRegister (Nodes n) (setContent n ws i (contentFrom key shared)) i field.Value) i l r
+unfoldable pub bothTaken : ℕ → ℕ → List ℕ → Header → Value → List ℕ
+bothTaken m n ws h v = addImage (Nodes n) (leafTaken m n ws h v) (addCounts (Nodes n) ws (h .nodes))
 
 -- ---- insert
 
 -- into the empty map: a leaf, which is the root
-unfoldable pub firstImage : ℕ → ℕ → List ℕ → Key → Value → List ℕ
-firstImage m n ws key v = set (leafAdded m n ws key v) 2 (addIndex (Nodes n) ws)
+unfoldable pub firstImage : ℕ → ℕ → List ℕ → Header → Key → Value → List ℕ
+firstImage m n ws h key v = set (setNode n (leafTaken m n ws h v) (h .nodes .head) (leafNode 0 key (h .values .head))) 2 (h .nodes .head)
 
--- node i becomes inner; the new leaf hangs on the side of the key's bit at the shared length, and the copy of node i on the other
-unfoldable pub sharedOf : List ℕ → ℕ → Key → ℕ
-sharedOf ws i key = common (numberOf key) (numberOf (nodeOf ws i .key))
+-- children l and r hang below node i: 0 names none
+unfoldable pub adopted : ℕ → List ℕ → ℕ → ℕ → ℕ → List ℕ
+adopted n ws i l r = setRegister (Nodes n) (setRegister (Nodes n) ws l i register.Parent) r i register.Parent
 
-unfoldable pub forkedImage : ℕ → List ℕ → ℕ → Key → ℕ → ℕ → ℕ → List ℕ
-forkedImage n ws i key shared leaf copy =
-    cond (bitOf (numberOf key) shared) (replaced n ws i key shared copy leaf) (replaced n ws i key shared leaf copy)
+-- the inner node that node i becomes: the new leaf hangs on the side of the key's bit at the shared length, and the copy on the other
+unfoldable pub forkNode : Key → ℕ → ℕ → ℕ → Node → Node
+forkNode key shared leaf copy x =
+    cond (bitOf (numberOf key) shared) (innerNode (x .parent .0) key shared copy leaf) (innerNode (x .parent .0) key shared leaf copy)
 
-unfoldable pub splitImage : ℕ → ℕ → List ℕ → ℕ → Key → Value → List ℕ
-splitImage m n ws i key v =
-    forkedImage n (duplicated n (leafAdded m n ws key v) i) i key (sharedOf ws i key) (addIndex (Nodes n) ws) (addIndex (Nodes n) (leafAdded m n ws key v))
+-- node i, whose record is x, moves to the copy; the new leaf, with its value record, and node i anew above both
+unfoldable pub forked : ℕ → List ℕ → ℕ → Node → ℕ → Key → ℕ → ℕ → ℕ → List ℕ
+forked n ws i x shared key leaf cell copy =
+    setNode n (setNode n (setNode n ws copy (withParent i x)) leaf (leafNode i key cell)) i (forkNode key shared leaf copy x)
+
+unfoldable pub splitImage : ℕ → ℕ → List ℕ → Header → ℕ → Node → ℕ → Key → Value → List ℕ
+splitImage m n ws h i x shared key v =
+    forked n (adopted n (bothTaken m n ws h v) (copyIndex n ws h) (x .left .0) (x .right .0)) i x shared key (h .nodes .head) (h .values .head) (copyIndex n ws h)
 
 unfoldable pub planImage : ℕ → ℕ → List ℕ → Key → Value → Plan → List ℕ
-planImage m n ws key v First = firstImage m n ws key v
-planImage m n ws key v (Replace i j) = setValue m n ws (j .0) v
-planImage m n ws key v (Split i) = splitImage m n ws (i .0) key v
+planImage m n ws key v (First h) = firstImage m n ws h key v
+planImage m n ws key v (Replace i j) = setValue m n ws (j .0) (liveRecord (i .0) v)
+planImage m n ws key v (Split h i x shared) = splitImage m n ws h (i .0) x shared key v
 planImage m n ws key v (Refused r) = ws
 
 -- the new leaf's index, or the equal leaf's
-unfoldable pub planPlace : ℕ → List ℕ → Plan → Place
-planPlace n ws First = place.At (record { 0 = addIndex (Nodes n) ws })
-planPlace n ws (Replace i j) = place.At i
-planPlace n ws (Split i) = place.At (record { 0 = addIndex (Nodes n) ws })
-planPlace n ws (Refused r) = place.Refused r
+unfoldable pub planPlace : Plan → Place
+planPlace (First h) = place.At (record { 0 = h .nodes .head })
+planPlace (Replace i j) = place.At i
+planPlace (Split h i x shared) = place.At (record { 0 = h .nodes .head })
+planPlace (Refused r) = place.Refused r
 
 unfoldable pub openedPlan : ℕ → ℕ → List ℕ → Key → Opened → Plan
-openedPlan m n ws key (Good h) = planOf m n h ws key
+openedPlan m n ws key (Good h) = insertPlan m n h ws key
 openedPlan m n ws key (Shut r) = Refused r
 
 -- insert's answer, and the image afterwards
 unfoldable pub insertOf : ℕ → ℕ → List ℕ → Key → Place
-insertOf m n ws key = planPlace n ws (openedPlan m n ws key (openOf m n ws))
+insertOf m n ws key = planPlace (openedPlan m n ws key (openOf m n ws))
 
 unfoldable pub insertImage : ℕ → ℕ → List ℕ → Key → Value → List ℕ
 insertImage m n ws key v = planImage m n ws key v (openedPlan m n ws key (openOf m n ws))

@@ -121,6 +121,18 @@ module _ (h : Header) (ws : List ℕ) (i above low : ℕ) where
       go false b (inl e) = let z : _≡_ {A = ℕ} 0 1 = cc in absurd (omega arith)
       go false b (inr e) = let z : _≡_ {A = ℕ} 0 1 = cc in absurd (omega arith)
 
+  pub came-node : (x : Node) → (visitOf h ws i above low ≡ Inner x) ⊎ (visitOf h ws i above low ≡ Leaf x) → x ≡ nodeOf ws i
+  unfolding visitOf
+  came-node x e = go (nodeOk h ws i above low) (eqb (nodeOf ws i .value .0) 0) e
+    where
+      go : (a b : Bool) → (cond a (cond b (Inner (nodeOf ws i)) (Leaf (nodeOf ws i))) Damaged ≡ Inner x) ⊎ (cond a (cond b (Inner (nodeOf ws i)) (Leaf (nodeOf ws i))) Damaged ≡ Leaf x) → x ≡ nodeOf ws i
+      go true true (inl e) = cc
+      go true true (inr e) = let z : _≡_ {A = ℕ} 0 1 = cc in absurd (omega arith)
+      go true false (inl e) = let z : _≡_ {A = ℕ} 0 1 = cc in absurd (omega arith)
+      go true false (inr e) = cc
+      go false b (inl e) = let z : _≡_ {A = ℕ} 0 1 = cc in absurd (omega arith)
+      go false b (inr e) = let z : _≡_ {A = ℕ} 0 1 = cc in absurd (omega arith)
+
   pub came-damaged : visitOf h ws i above low ≡ Damaged → nodeOk h ws i above low ≡ false
   unfolding visitOf
   came-damaged e = go (nodeOk h ws i above low) (eqb (nodeOf ws i .value .0) 0) e

@@ -51,6 +51,15 @@ abbrev pub innerNode : ℕ → Key → ℕ → ℕ → ℕ → Node
 innerNode parent key prefix l r =
     record { left = record { 0 = l }; right = record { 0 = r }; parent = record { 0 = parent }; value = record { 0 = 0 }; key = key; prefix = prefix }
 
+-- a node with another Parent
+abbrev pub withParent : ℕ → Node → Node
+withParent parent x = record { left = x .left; right = x .right; parent = record { 0 = parent }; value = x .value; key = x .key; prefix = x .prefix }
+
+-- a node that links to nothing but its Parent, as one that is about to be freed does
+abbrev pub bareNode : ℕ → Node → Node
+bareNode parent x =
+    record { left = record { 0 = 0 }; right = record { 0 = 0 }; parent = record { 0 = parent }; value = record { 0 = 0 }; key = x .key; prefix = x .prefix }
+
 -- a value, first word first
 abbrev pub valueOf : List ℕ → ℕ → Value
 valueOf ws k = record { first = wideAt ws k; second = wideAt ws (k + 2) }
