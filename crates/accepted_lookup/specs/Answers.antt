@@ -166,6 +166,14 @@ module _ {m n : ℕ} {ws : List ℕ} (a : Accepted m n ws) where
   alive : (key : Key) (e : ℕ × ℕ) → lookupIn key (a .tree) ≡ some e → Live (valueRecordOf n ws (e .1))
   alive key e q = find-all (λ v. Live (valueRecordOf n ws v)) key (listOf (a .tree)) (e .1) (a .live) (sym (value-found key) ∙ ap valueOf q)
 
+  -- the node of a key's leaf names its value record
+  pub target-value : (key : Key) (e : ℕ × ℕ) → lookupIn key (a .tree) ≡ some e → nodeOf ws (e .0) .value .0 ≡ e .1
+  target-value key e q = in-map (a .tree) (a .holds) q
+    where
+      in-map : (t : Map) → HoldsMap (headerOf n ws) ws t → lookupIn key t ≡ some e → nodeOf ws (e .0) .value .0 ≡ e .1
+      in-map none k q = let z : _≡_ {A = ℕ} 0 1 = cc in absurd (omega arith)
+      in-map (some t) k q = found-value (headerOf n ws) ws key 0 0 t (held-of t k) e q
+
   -- a live value record holds its value
   live-held : (i j : ℕ) → Live (valueRecordOf n ws j) → liveOf n ws i j ≡ live.Holds (valueAtRecord n ws j)
   unfolding liveOf
@@ -173,16 +181,16 @@ module _ {m n : ℕ} {ws : List ℕ} (a : Accepted m n ws) where
 
   pub target-agrees : (key : Key) → targetOf m n ws key ≡ targetFrom (lookupIn key (a .tree))
   unfolding targetOf openedTarget stopTarget liveTarget stopFrom
-  target-agrees key = rw (accepted-opens a, find-tree key (a .tree) (a .holds) (a .ordered)) (in-map (a .tree) (a .holds) (alive key))
+  target-agrees key = rw (accepted-opens a, find-tree key (a .tree) (a .holds) (a .ordered)) (in-map (a .tree) (λ e q. (target-value key e q, alive key e q)))
     where
-      in-map : (t : Map) → HoldsMap (headerOf n ws) ws t → ((e : ℕ × ℕ) → lookupIn key t ≡ some e → Live (valueRecordOf n ws (e .1)))
+      in-map : (t : Map) → ((e : ℕ × ℕ) → lookupIn key t ≡ some e → (nodeOf ws (e .0) .value .0 ≡ e .1) × Live (valueRecordOf n ws (e .1)))
           → stopTarget n ws (stopIn key t) ≡ targetFrom (lookupIn key t)
-      in-map none k l = refl
-      in-map (some t) k l = go (lookup key t) refl
+      in-map none l = refl
+      in-map (some t) l = go (lookup key t) refl
         where
           go : (r : Option (ℕ × ℕ)) → lookup key t ≡ r → stopTarget n ws (stopFrom ws key (target key t) r) ≡ targetFrom r
           go none q = refl
-          go (some e) q = rw (found-value (headerOf n ws) ws key 0 0 t (held-of t k) e q, live-held (e .0) (e .1) (l e q))
+          go (some e) q = rw (l e q .0, live-held (e .0) (e .1) (l e q .1))
 
   pub get-agrees : (key : Key) → getOf m n ws key ≡ gotFrom (find key (listed a))
   unfolding getOf targetGot
