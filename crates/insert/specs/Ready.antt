@@ -10,18 +10,25 @@ use lib.Dec.{eqb}
 use borrow.Author.Tests.{leb-true, eqb-false, lt-ltb}
 use Rattle.words.specs.Tests.{and-l, and-r}
 use Rattle.keys.specs.declared.Key.{Key}
+use Rattle.keys.specs.Number.{numberOf}
+use Rattle.keys.specs.Common.{bitOf}
 use Rattle.records.specs.declared.Header.{Header}
+use Rattle.records.specs.declared.Node.{Node}
+use Rattle.records.specs.declared.NodeIndex.{NodeIndex}
 use Rattle.inspection.specs.declared.Opened.{Opened}
 use Rattle.inspection.specs.declared.Opened.the-variants.{Good, Shut}
 use Rattle.records.specs.Layout.{mostNodes, imageOf, imageLength}
-use Rattle.records.specs.Records.{nodeOf}
-use Rattle.inspection.specs.Tests.{arenaOk, headerOk, freeNode}
+use Rattle.records.specs.Records.{nodeOf, valueRecordOf, innerNode}
+use Rattle.inspection.specs.declared.Live.{Live}
+use Rattle.inspection.specs.declared.Live.the-variants.{Holds, Not}
+use Rattle.inspection.specs.Tests.{arenaOk, headerOk, liveValue, freeNode}
+use Rattle.inspection.specs.Visit.{liveOf}
 use Rattle.inspection.specs.Opening.{openOf}
 use Rattle.inspection.specs.Room.{Room, room, node-bump, open-shaped, open-passed, opened-bytes}
 use Rattle.insert.specs.declared.Plan.{Plan}
 use Rattle.insert.specs.declared.Plan.the-variants.{First, Replace, Split, Refused}
 use Rattle.insert.specs.Plan.{takenNode, nextNode}
-use Rattle.insert.specs.Steps.{openedPlan}
+use Rattle.insert.specs.Steps.{forkNode, openedPlan}
 
 -- ---- the records to take
 
@@ -57,6 +64,32 @@ next-some n h ws i l e = go (eqb i (h .nodes .bump)) refl
         let below : i < h .nodes .bump = omega arith in
         let f : freeNode h ws i (nodeOf ws i) ≡ true = simp (lt-ltb i (h .nodes .bump) below) at e in
         leb-true 1 (nodeOf ws i .left .0) (search (and-l, and-r) depth 8)
+
+-- ---- the equal leaf's value record, by what its reading came to
+
+unfoldable pub livePlan : Plan → Plan → Live → Plan
+livePlan p q (Holds v) = p
+livePlan p q Not = q
+
+pub by-live : (n : ℕ) (ws : List ℕ) (leaf j : ℕ) (p q : Plan) → cond (liveValue n ws leaf j) p q ≡ livePlan p q (liveOf n ws leaf j)
+unfolding livePlan liveOf
+by-live n ws leaf j p q = go (liveValue n ws leaf j)
+  where
+    go : (b : Bool) → cond b p q ≡ livePlan p q (cond b (Holds (valueRecordOf n ws j .value)) Not)
+    go true = refl
+    go false = refl
+
+-- ---- the forked node, each child chosen by itself
+
+pub fork-picked : (key : Key) (shared : ℕ) (leaf copy : NodeIndex) (x : Node) → forkNode key shared (leaf .0) (copy .0) x
+    ≡ innerNode (x .parent .0) key shared (cond (bitOf (numberOf key) shared) copy leaf .0) (cond (bitOf (numberOf key) shared) leaf copy .0)
+unfolding forkNode
+fork-picked key shared leaf copy x = go (bitOf (numberOf key) shared)
+  where
+    go : (b : Bool) → cond b (innerNode (x .parent .0) key shared (copy .0) (leaf .0)) (innerNode (x .parent .0) key shared (leaf .0) (copy .0))
+        ≡ innerNode (x .parent .0) key shared (cond b copy leaf .0) (cond b leaf copy .0)
+    go true = refl
+    go false = refl
 
 -- ---- a plan that writes is made in an opened image
 

@@ -16,12 +16,13 @@ use records::write::set_node;
 use records::write::set_root;
 use records::write::set_value;
 ghost use mathlib.Core.Path.{_≡_};
+ghost use mathlib.Core.Bool.{cond};
 ghost use Prim.Native.Nat.{_+_, _*_, _≤_};
 ghost use lib.ListN.{length};
 ghost use Rattle.words.specs.Words.{words};
 ghost use Rattle.node_allocator.specs.declared.Arena.the-variants.{Nodes};
 ghost use Rattle.node_allocator.specs.Steps.{addCounts};
-ghost use Rattle.records.specs.Records.{leafNode, innerNode, withParent};
+ghost use Rattle.records.specs.Records.{leafNode, withParent};
 ghost use Rattle.insert.specs.Steps.{leafTaken, firstImage, adopted, forkNode, forked, splitImage};
 
 // The leaf's node is taken, and its value record, which holds the value. The answer is the nodes' header afterwards.
@@ -38,7 +39,13 @@ fn take_leaf(img: &mut [u8], m: u32, n: u32, h: Header, v: Value) -> Counts
     };
     let after = add_node(img, Arena::Nodes { nodes: n }, nodes);
     add_node(img, a, values);
-    set_value(img, m, n, ValueIndex(values.head), live_record(NodeIndex(nodes.head), v));
+    set_value(
+        img,
+        m,
+        n,
+        ValueIndex(values.head),
+        live_record(NodeIndex(nodes.head), v),
+    );
     after
 }
 
@@ -93,6 +100,16 @@ fn with_parent(parent: NodeIndex, x: Node) -> Node
     }
 }
 
+// The first of two nodes, or the second.
+fn pick(first: bool, a: NodeIndex, b: NodeIndex) -> NodeIndex
+    ensures { λ r. ⌜ r ≡ cond first a b ⌝ }
+{
+    if first {
+        return a;
+    }
+    b
+}
+
 // The inner node that takes the place of `x`: the new leaf hangs on the side of the key's bit at the shared length, and the copy of `x` on the other.
 fn fork_node(key: Key, shared: u64, leaf: NodeIndex, copy: NodeIndex, x: Node) -> Node
     ensures { λ r. ⌜ r ≡ forkNode key shared (leaf .0) (copy .0) x ⌝ }
@@ -100,8 +117,8 @@ fn fork_node(key: Key, shared: u64, leaf: NodeIndex, copy: NodeIndex, x: Node) -
     let right = bit(key, shared);
     let parent = x.parent;
     Node {
-        left: if right { copy } else { leaf },
-        right: if right { leaf } else { copy },
+        left: pick(right, copy, leaf),
+        right: pick(right, leaf, copy),
         parent,
         value: ValueIndex(0),
         key,
@@ -110,7 +127,17 @@ fn fork_node(key: Key, shared: u64, leaf: NodeIndex, copy: NodeIndex, x: Node) -
 }
 
 // Node `i`, whose record is `x`, moves to the copy; the new leaf, and node `i` anew above both.
-fn fork(img: &mut [u8], n: u32, i: NodeIndex, x: Node, shared: u64, key: Key, leaf: NodeIndex, cell: ValueIndex, copy: NodeIndex)
+fn fork(
+    img: &mut [u8],
+    n: u32,
+    i: NodeIndex,
+    x: Node,
+    shared: u64,
+    key: Key,
+    leaf: NodeIndex,
+    cell: ValueIndex,
+    copy: NodeIndex,
+)
     requires { ⌜ 48 * n + 32 ≤ length (now img) ⌝ }
     ensures { λ _. ⌜ words (now (img .exit)) ≡ forked n (words (now (img .entry))) (i .0) x shared key (leaf .0) (cell .0) (copy .0) ⌝ }
 {
@@ -120,7 +147,17 @@ fn fork(img: &mut [u8], n: u32, i: NodeIndex, x: Node, shared: u64, key: Key, le
 }
 
 // At node `i`, whose record is `x` and where the key parts from the map: a leaf for it, a copy of the node, and the node above both.
-pub fn split(img: &mut [u8], m: u32, n: u32, h: Header, i: NodeIndex, x: Node, shared: u64, key: Key, v: Value)
+pub fn split(
+    img: &mut [u8],
+    m: u32,
+    n: u32,
+    h: Header,
+    i: NodeIndex,
+    x: Node,
+    shared: u64,
+    key: Key,
+    v: Value,
+)
     requires { ⌜ 48 * n + 32 * m + 48 ≤ length (now img) ⌝ }
     ensures { λ _. ⌜ words (now (img .exit)) ≡ splitImage m n (words (now (img .entry))) h (i .0) x shared key v ⌝ }
 {

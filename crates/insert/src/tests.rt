@@ -107,7 +107,8 @@ fn leaf_tests(img: &[u8], m: u32, n: u32, h: Header) -> bool
     requires { ⌜ Ready m n h (length (words (now img))) ⌝ }
     ensures { λ r. ⌜ r ≡ leafTests m n h (words (now (img .entry))) ⌝ }
 {
-    taken_node(img, m, n, h, NodeIndex(h.nodes.head)) & taken_value(img, m, n, h, ValueIndex(h.values.head))
+    taken_node(img, m, n, h, NodeIndex(h.nodes.head))
+        & taken_value(img, m, n, h, ValueIndex(h.values.head))
 }
 
 // The records that a split takes: those of the leaf, and a second node.
