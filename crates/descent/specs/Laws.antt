@@ -1,9 +1,9 @@
 -- What the loops go by: a step down raises the least prefix length, so that a descent ends within 129 nodes, and what is left of a descent after a step is what was left before it.
 -- One proof for every turn.
-use mathlib.Core.Path.{_≡_, refl, sym, ap, _∙_}
+use mathlib.Core.Path.{_≡_, refl, sym, ap, subst, _∙_}
 use mathlib.Core.List.{List}
 use mathlib.Core.Bool.{Bool, true, false, cond}
-use mathlib.Core.Logic.{_⊎_, ⊎-elim}
+use mathlib.Core.Logic.{_⊎_, inl, inr}
 use Prim.Native.Nat.{ℕ, zero, suc, _+_, _≤_, _<_}
 use native.Mathlib.Omega.{arith}
 use lib.Dec.{eqb, leb, ltb}
@@ -19,7 +19,7 @@ use Rattle.records.specs.Records.{nodeOf}
 use Rattle.inspection.specs.Tests.{nodeOk}
 use Rattle.inspection.specs.declared.Visited.the-variants.{Inner}
 use Rattle.inspection.specs.declared.Visited.the-variants as visited
-use Rattle.inspection.specs.Visit.{visitOf, came-through, came-node, came-damaged, Passed, passed}
+use Rattle.inspection.specs.Visit.{visitOf, came-through, came-node, came-inner, came-leaf, came-damaged, passed}
 use Rattle.descent.specs.declared.Stop.{Stop}
 use Rattle.descent.specs.declared.Stop.the-variants.{Damaged}
 use Rattle.descent.specs.declared.Turn.{Turn}
@@ -84,13 +84,19 @@ module _ (turn : NodeIndex → Node → Turn) (turns : Turns turn) (h : Header) 
 -- ---- a turn by what a visit came to
 
 module _ (turn : NodeIndex → Node → Turn) (h : Header) (ws : List ℕ) (i above : NodeIndex) (low : ℕ) where
-  pub turn-node : (x : Node) → (visitOf h ws (i .0) (above .0) low ≡ Inner x) ⊎ (visitOf h ws (i .0) (above .0) low ≡ visited.Leaf x)
-      → (turnAt turn h ws i above low ≡ turn i x) × (x ≡ nodeOf ws (i .0)) × Passed low x
+  at-node : (x : Node) → (visitOf h ws (i .0) (above .0) low ≡ Inner x) ⊎ (visitOf h ws (i .0) (above .0) low ≡ visited.Leaf x) → turnAt turn h ws i above low ≡ turn i x
   unfolding turnAt
-  turn-node x e =
-      let ok = came-through h ws (i .0) (above .0) low x e in
-      let same = came-node h ws (i .0) (above .0) low x e in
-      (rw (ok, same), same, rw same (passed h ws (i .0) (above .0) low ok))
+  at-node x e = rw (came-through h ws (i .0) (above .0) low x e, came-node h ws (i .0) (above .0) low x e)
+
+  pub turn-inner : (x : Node) → visitOf h ws (i .0) (above .0) low ≡ Inner x → (turnAt turn h ws i above low ≡ turn i x) × (isInner x ≡ true) × (x .prefix < 128)
+  turn-inner x e =
+      let kind = came-inner h ws (i .0) (above .0) low x e in
+      let same = came-node h ws (i .0) (above .0) low x (inl e) in
+      let short = passed h ws (i .0) (above .0) low (came-through h ws (i .0) (above .0) low x (inl e)) .inner in
+      (at-node x (inl e), kind, subst (λ (y : Node). y .value .0 ≡ 0 → y .prefix < 128) (sym same) short (eqb-true (x .value .0) 0 kind))
+
+  pub turn-leaf : (x : Node) → visitOf h ws (i .0) (above .0) low ≡ visited.Leaf x → (turnAt turn h ws i above low ≡ turn i x) × (isInner x ≡ false)
+  turn-leaf x e = (at-node x (inr e), came-leaf h ws (i .0) (above .0) low x e)
 
   pub turn-damaged : visitOf h ws (i .0) (above .0) low ≡ visited.Damaged → turnAt turn h ws i above low ≡ Halt Damaged
   unfolding turnAt

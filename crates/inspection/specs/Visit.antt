@@ -133,6 +133,24 @@ module _ (h : Header) (ws : List ℕ) (i above low : ℕ) where
       go false b (inl e) = let z : _≡_ {A = ℕ} 0 1 = cc in absurd (omega arith)
       go false b (inr e) = let z : _≡_ {A = ℕ} 0 1 = cc in absurd (omega arith)
 
+  pub came-inner : (x : Node) → visitOf h ws i above low ≡ Inner x → eqb (x .value .0) 0 ≡ true
+  unfolding visitOf
+  came-inner x e = go (nodeOk h ws i above low) (eqb (nodeOf ws i .value .0) 0) refl e
+    where
+      go : (a b : Bool) → eqb (nodeOf ws i .value .0) 0 ≡ b → cond a (cond b (Inner (nodeOf ws i)) (Leaf (nodeOf ws i))) Damaged ≡ Inner x → eqb (x .value .0) 0 ≡ true
+      go true true q e = let same : nodeOf ws i ≡ x = cc in rw (sym same) q
+      go true false q e = let z : _≡_ {A = ℕ} 0 1 = cc in absurd (omega arith)
+      go false b q e = let z : _≡_ {A = ℕ} 0 1 = cc in absurd (omega arith)
+
+  pub came-leaf : (x : Node) → visitOf h ws i above low ≡ Leaf x → eqb (x .value .0) 0 ≡ false
+  unfolding visitOf
+  came-leaf x e = go (nodeOk h ws i above low) (eqb (nodeOf ws i .value .0) 0) refl e
+    where
+      go : (a b : Bool) → eqb (nodeOf ws i .value .0) 0 ≡ b → cond a (cond b (Inner (nodeOf ws i)) (Leaf (nodeOf ws i))) Damaged ≡ Leaf x → eqb (x .value .0) 0 ≡ false
+      go true false q e = let same : nodeOf ws i ≡ x = cc in rw (sym same) q
+      go true true q e = let z : _≡_ {A = ℕ} 0 1 = cc in absurd (omega arith)
+      go false b q e = let z : _≡_ {A = ℕ} 0 1 = cc in absurd (omega arith)
+
   pub came-damaged : visitOf h ws i above low ≡ Damaged → nodeOk h ws i above low ≡ false
   unfolding visitOf
   came-damaged e = go (nodeOk h ws i above low) (eqb (nodeOf ws i .value .0) 0) e

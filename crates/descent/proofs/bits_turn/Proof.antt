@@ -1,10 +1,13 @@
+-- `descent::bits_turn` meets its contract. Assumes nothing.
+use mathlib.Core.Path.{sym, _∙_}
+use native.Mathlib.Omega.{arith}
+use borrow.Author.Tests.{lt-ltb, le-ltb}
+use Rattle.words.specs.Words.{words}
+use Rattle.descent.specs.Laws.{turn-inner, turn-leaf, turn-damaged}
+use Rattle.descent.specs.Descent.{bitsTurn}
 use borrow.Author.Needs.{needs}
 use Rattle.descent.proofs.bits_turn.Statement.{statement}
 use Rattle.descent.proofs.bits_turn.Tie as tie
-use Rattle.descent.proofs.bits_turn.Reads as reads
-use Rattle.descent.proofs.bits_turn.Lts as lts
-use Rattle.descent.proofs.child.Reads as child-reads
-use Rattle.inspection.proofs.visit.visit.Reads as visit-reads
 
 visit-requires : tie.Need-visit-requires
 visit-requires c κs = search needs
@@ -16,7 +19,7 @@ child-requires : tie.Need-child-requires
 child-requires c κs = search needs
 
 add-t12 : tie.Need-add-t12
-add-t12 c = ?
+add-t12 c = omega (arith, turn-inner (bitsTurn (c .before .before .before .before .before .before .before .args .key)) (c .before .before .before .before .before .before .before .args .h) (words (c .before .before .before .before .before .before .before .args .img .now)) (c .before .before .before .before .before .before .before .args .i) (c .before .before .before .before .before .before .before .args .above) (c .before .before .before .before .before .before .before .args .low) _ (sym (c .before .before .before .before .before .visit .ensures) ∙ c .before .before .before .x .given .1) .2)
 
 enum-known-x-2 : tie.Need-enum-known-x-2
 enum-known-x-2 c = search needs
@@ -25,13 +28,15 @@ enum-told : tie.Need-enum-told
 enum-told c = search needs
 
 returns : tie.Need-returns
-returns c = ?
+unfolding bitsTurn
+returns c = simp (turn-inner (bitsTurn (c .before .before .before .before .before .before .before .args .key)) (c .before .before .before .before .before .before .before .args .h) (words (c .before .before .before .before .before .before .before .args .img .now)) (c .before .before .before .before .before .before .before .args .i) (c .before .before .before .before .before .before .before .args .above) (c .before .before .before .before .before .before .before .args .low) _ (sym (c .before .before .before .before .before .visit .ensures) ∙ c .before .before .before .x .given .1) .0, turn-inner (bitsTurn (c .before .before .before .before .before .before .before .args .key)) (c .before .before .before .before .before .before .before .args .h) (words (c .before .before .before .before .before .before .before .args .img .now)) (c .before .before .before .before .before .before .before .args .i) (c .before .before .before .before .before .before .before .args .above) (c .before .before .before .before .before .before .before .args .low) _ (sym (c .before .before .before .before .before .visit .ensures) ∙ c .before .before .before .x .given .1) .1, c .before .child .ensures)
 
 returns-2 : tie.Need-returns-2
-returns-2 c = ?
+unfolding bitsTurn
+returns-2 c = simp (turn-leaf (bitsTurn (c .before .before .before .before .before .args .key)) (c .before .before .before .before .before .args .h) (words (c .before .before .before .before .before .args .img .now)) (c .before .before .before .before .before .args .i) (c .before .before .before .before .before .args .above) (c .before .before .before .before .before .args .low) _ (sym (c .before .before .before .visit .ensures) ∙ c .before .x2 .given .1) .0, turn-leaf (bitsTurn (c .before .before .before .before .before .args .key)) (c .before .before .before .before .before .args .h) (words (c .before .before .before .before .before .args .img .now)) (c .before .before .before .before .before .args .i) (c .before .before .before .before .before .args .above) (c .before .before .before .before .before .args .low) _ (sym (c .before .before .before .visit .ensures) ∙ c .before .x2 .given .1) .1)
 
 returns-3 : tie.Need-returns-3
-returns-3 c = ?
+returns-3 c = sym (turn-damaged (bitsTurn (c .before .before .before .before .args .key)) (c .before .before .before .before .args .h) (words (c .before .before .before .before .args .img .now)) (c .before .before .before .before .args .i) (c .before .before .before .before .args .above) (c .before .before .before .before .args .low) (sym (c .before .before .visit .ensures) ∙ c .enum-told .given .1))
 
 pub bits-turn-spec : {M : Type 1} → statement M
 bits-turn-spec =

@@ -20,19 +20,19 @@ abbrev μ-loop : tie.MeasureT-loop
 loop-holds : tie.Need-loop-holds Inv-loop μ-loop
 loop-holds c = (search needs, (129, search needs, refl))
 
-lookup-step-requires : tie.Need-lookup-step-requires Inv-loop μ-loop
-lookup-step-requires c κs = search needs
+lookup-turn-requires : tie.Need-lookup-turn-requires Inv-loop μ-loop
+lookup-turn-requires c κs = search needs
 
 enum-known-next : tie.Need-enum-known-next Inv-loop μ-loop
 enum-known-next c = search needs
 
 loop-less : tie.Need-loop-less Inv-loop μ-loop
-loop-less c = omega (arith, rises (lookupTurn (c .before .before .before .before .before .before .before .args .key)) (lookup-turns (c .before .before .before .before .before .before .before .args .key)) _ _ _ _ _ _ _ (sym (c .before .before .before .lookup-step .ensures) ∙ c .before .next .given .1))
+loop-less c = omega (arith, rises (lookupTurn (c .before .before .before .before .before .before .before .args .key)) (lookup-turns (c .before .before .before .before .before .before .before .args .key)) _ _ _ _ _ _ _ (sym (c .before .before .before .lookup-turn .ensures) ∙ c .before .next .given .1))
 
 loop-again : tie.Need-loop-again Inv-loop μ-loop
 loop-again c =
     let l = c .before .before .before .before .loop in
-    let e = sym (c .before .before .before .lookup-step .ensures) ∙ c .before .next .given .1 in (
+    let e = sym (c .before .before .before .lookup-turn .ensures) ∙ c .before .next .given .1 in (
       rises (lookupTurn (c .before .before .before .before .before .before .before .args .key)) (lookup-turns (c .before .before .before .before .before .before .before .args .key)) _ _ _ _ _ _ _ e .1,
       again (lookupTurn (c .before .before .before .before .before .before .before .args .key)) (lookup-turns (c .before .before .before .before .before .before .before .args .key)) _ _ _ _ _ _ _ (l .inv .1 .1) (l .inv .0) (l .inv .1 .2) _ _ e,
     )
@@ -43,7 +43,7 @@ enum-known-stop c = search needs
 returns : tie.Need-returns Inv-loop μ-loop
 returns c =
     let l = c .before .before .before .before .loop in
-    let e = sym (c .before .before .before .lookup-step .ensures) ∙ c .before .stop .given .1 in
+    let e = sym (c .before .before .before .lookup-turn .ensures) ∙ c .before .stop .given .1 in
     halts (lookupTurn (c .before .before .before .before .before .before .before .args .key)) (lookup-turns (c .before .before .before .before .before .before .before .args .key)) _ _ _ _ _ _ _ (l .inv .1 .1) (l .inv .0) (l .inv .1 .2) _ e
 
 pub descend-from-spec : {M : Type 1} → statement M
@@ -53,7 +53,7 @@ descend-from-spec =
     Inv-loop
     μ-loop
     loop-holds
-    lookup-step-requires
+    lookup-turn-requires
     enum-known-next
     loop-less
     loop-again

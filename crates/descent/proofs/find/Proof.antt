@@ -1,13 +1,13 @@
+-- `descent::find` meets its contract. Assumes nothing.
+use borrow.Author.Tests.{eq-eqb, ne-eqb}
+use Rattle.descent.specs.Descent.{fromRoot}
 use borrow.Author.Needs.{needs}
 use Rattle.descent.proofs.find.Statement.{statement}
 use Rattle.descent.proofs.find.Tie as tie
-use Rattle.descent.proofs.find.Reads as reads
-use Rattle.descent.proofs.find.Lts as lts
-use Rattle.descent.proofs.descend_from.Reads as descend-from-reads
-use Rattle.inspection.proofs.visit.root_ok.Reads as root-ok-reads
 
 returns : tie.Need-returns
-returns c = ?
+unfolding fromRoot
+returns c = simp (eq-eqb _ _ (c .if1 .taken))
 
 root-ok-requires : tie.Need-root-ok-requires
 root-ok-requires c κs = search needs
@@ -16,10 +16,12 @@ descend-from-requires : tie.Need-descend-from-requires
 descend-from-requires c κs = search needs
 
 returns-2 : tie.Need-returns-2
-returns-2 c = ?
+unfolding fromRoot
+returns-2 c = simp (ne-eqb _ _ (c .before .before .before .if1 .left), ← c .before .before .root-ok .ensures, c .before .if2 .taken, c .descend-from .ensures)
 
 returns-3 : tie.Need-returns-3
-returns-3 c = ?
+unfolding fromRoot
+returns-3 c = simp (ne-eqb _ _ (c .before .before .if1 .left), ← c .before .root-ok .ensures, c .if2 .left)
 
 pub find-spec : {M : Type 1} → statement M
 find-spec = tie.close (tie.spec returns root-ok-requires descend-from-requires returns-2 returns-3)

@@ -1,18 +1,19 @@
+-- `descent::find_end` meets its contract. Assumes nothing.
+use borrow.Author.Needs.{needs}
+use mathlib.Core.Path.{_∙_}
+use Rattle.words.specs.Words.{words}
+use Rattle.descent.specs.Bits.{end-bits}
 use Rattle.descent.proofs.find_end.Statement.{statement}
 use Rattle.descent.proofs.find_end.Tie as tie
-use Rattle.descent.proofs.find_end.Reads as reads
-use Rattle.descent.proofs.find_end.Lts as lts
-use Rattle.descent.proofs.all_bits.Reads as all-bits-reads
-use Rattle.descent.proofs.reach.Reads as reach-reads
 
 all-bits-requires : tie.Need-all-bits-requires
-all-bits-requires c κs = ?
+all-bits-requires c κs = search needs
 
 reach-requires : tie.Need-reach-requires
-reach-requires c κs = ?
+reach-requires c κs = search needs
 
 returns : tie.Need-returns
-returns c = ?
+returns c = c .reach .ensures ∙ simp (c .before .all-bits .ensures) (end-bits (c .before .before .before .args .right) (c .before .before .before .args .h) (words (c .before .before .before .args .img .now)))
 
 pub find-end-spec : {M : Type 1} → statement M
 find-end-spec = tie.close (tie.spec all-bits-requires reach-requires returns)

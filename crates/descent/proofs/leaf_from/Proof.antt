@@ -4,8 +4,8 @@ use mathlib.Core.Path.{_≡_, refl, sym, _∙_}
 use native.Mathlib.Omega.{arith}
 use borrow.Author.Needs.{needs}
 use Rattle.words.specs.Words.{words}
-use Rattle.descent.specs.Descent.{descend}
-use Rattle.descent.specs.Bits.{bitsTurn, bits-turns}
+use Rattle.descent.specs.Descent.{bitsTurn, descend}
+use Rattle.descent.specs.Bits.{bits-turns}
 use Rattle.descent.specs.Laws.{rises, again, halts}
 use Rattle.descent.proofs.leaf_from.Statement.{statement}
 use Rattle.descent.proofs.leaf_from.Tie as tie
@@ -21,19 +21,19 @@ abbrev μ-loop : tie.MeasureT-loop
 loop-holds : tie.Need-loop-holds Inv-loop μ-loop
 loop-holds c = (search needs, (129, search needs, refl))
 
-bits-step-requires : tie.Need-bits-step-requires Inv-loop μ-loop
-bits-step-requires c κs = search needs
+bits-turn-requires : tie.Need-bits-turn-requires Inv-loop μ-loop
+bits-turn-requires c κs = search needs
 
 enum-known-next : tie.Need-enum-known-next Inv-loop μ-loop
 enum-known-next c = search needs
 
 loop-less : tie.Need-loop-less Inv-loop μ-loop
-loop-less c = omega (arith, rises (bitsTurn (c .before .before .before .before .before .before .before .args .key)) (bits-turns (c .before .before .before .before .before .before .before .args .key)) _ _ _ _ _ _ _ (sym (c .before .before .before .bits-step .ensures) ∙ c .before .next .given .1))
+loop-less c = omega (arith, rises (bitsTurn (c .before .before .before .before .before .before .before .args .key)) (bits-turns (c .before .before .before .before .before .before .before .args .key)) _ _ _ _ _ _ _ (sym (c .before .before .before .bits-turn .ensures) ∙ c .before .next .given .1))
 
 loop-again : tie.Need-loop-again Inv-loop μ-loop
 loop-again c =
     let l = c .before .before .before .before .loop in
-    let e = sym (c .before .before .before .bits-step .ensures) ∙ c .before .next .given .1 in (
+    let e = sym (c .before .before .before .bits-turn .ensures) ∙ c .before .next .given .1 in (
       rises (bitsTurn (c .before .before .before .before .before .before .before .args .key)) (bits-turns (c .before .before .before .before .before .before .before .args .key)) _ _ _ _ _ _ _ e .1,
       again (bitsTurn (c .before .before .before .before .before .before .before .args .key)) (bits-turns (c .before .before .before .before .before .before .before .args .key)) _ _ _ _ _ _ _ (l .inv .1 .1) (l .inv .0) (l .inv .1 .2) _ _ e,
     )
@@ -44,7 +44,7 @@ enum-known-stop c = search needs
 returns : tie.Need-returns Inv-loop μ-loop
 returns c =
     let l = c .before .before .before .before .loop in
-    let e = sym (c .before .before .before .bits-step .ensures) ∙ c .before .stop .given .1 in
+    let e = sym (c .before .before .before .bits-turn .ensures) ∙ c .before .stop .given .1 in
     halts (bitsTurn (c .before .before .before .before .before .before .before .args .key)) (bits-turns (c .before .before .before .before .before .before .before .args .key)) _ _ _ _ _ _ _ (l .inv .1 .1) (l .inv .0) (l .inv .1 .2) _ e
 
 pub leaf-from-spec : {M : Type 1} → statement M
@@ -54,7 +54,7 @@ leaf-from-spec =
     Inv-loop
     μ-loop
     loop-holds
-    bits-step-requires
+    bits-turn-requires
     enum-known-next
     loop-less
     loop-again

@@ -1,11 +1,13 @@
+-- `descent::lookup_turn` meets its contract. Assumes nothing.
+use mathlib.Core.Path.{sym, _∙_}
+use native.Mathlib.Omega.{arith}
+use borrow.Author.Tests.{lt-ltb, le-ltb}
+use Rattle.words.specs.Words.{words}
+use Rattle.descent.specs.Laws.{turn-inner, turn-leaf, turn-damaged}
+use Rattle.descent.specs.Descent.{lookupTurn}
 use borrow.Author.Needs.{needs}
 use Rattle.descent.proofs.lookup_turn.Statement.{statement}
 use Rattle.descent.proofs.lookup_turn.Tie as tie
-use Rattle.descent.proofs.lookup_turn.Reads as reads
-use Rattle.descent.proofs.lookup_turn.Lts as lts
-use Rattle.descent.proofs.child.Reads as child-reads
-use Rattle.inspection.proofs.visit.visit.Reads as visit-reads
-use Rattle.keys.proofs.leading_equal.Reads as leading-equal-reads
 
 visit-requires : tie.Need-visit-requires
 visit-requires c κs = search needs
@@ -17,13 +19,14 @@ leading-equal-requires : tie.Need-leading-equal-requires
 leading-equal-requires c κs = search needs
 
 returns : tie.Need-returns
-returns c = ?
+unfolding lookupTurn
+returns c = simp (turn-inner (lookupTurn (c .before .before .before .before .before .before .before .before .before .args .key)) (c .before .before .before .before .before .before .before .before .before .args .h) (words (c .before .before .before .before .before .before .before .before .before .args .img .now)) (c .before .before .before .before .before .before .before .before .before .args .i) (c .before .before .before .before .before .before .before .before .before .args .above) (c .before .before .before .before .before .before .before .before .before .args .low) _ (sym (c .before .before .before .before .before .before .before .visit .ensures) ∙ c .before .before .before .before .before .x .given .1) .0, ← c .before .before .leading-equal .ensures, lt-ltb _ _ (c .if1 .taken))
 
 child-requires : tie.Need-child-requires
 child-requires c κs = search needs
 
 add-t18 : tie.Need-add-t18
-add-t18 c = ?
+add-t18 c = omega (arith, turn-inner (lookupTurn (c .before .before .before .before .before .before .before .before .before .before .before .args .key)) (c .before .before .before .before .before .before .before .before .before .before .before .args .h) (words (c .before .before .before .before .before .before .before .before .before .before .before .args .img .now)) (c .before .before .before .before .before .before .before .before .before .before .before .args .i) (c .before .before .before .before .before .before .before .before .before .before .before .args .above) (c .before .before .before .before .before .before .before .before .before .before .before .args .low) _ (sym (c .before .before .before .before .before .before .before .before .before .visit .ensures) ∙ c .before .before .before .before .before .before .before .x .given .1) .2)
 
 enum-known-x-2 : tie.Need-enum-known-x-2
 enum-known-x-2 c = search needs
@@ -32,19 +35,22 @@ leading-equal-requires-2 : tie.Need-leading-equal-requires-2
 leading-equal-requires-2 c κs = search needs
 
 returns-2 : tie.Need-returns-2
-returns-2 c = ?
+unfolding lookupTurn
+returns-2 c = simp (turn-leaf (lookupTurn (c .before .before .before .before .before .before .before .before .before .args .key)) (c .before .before .before .before .before .before .before .before .before .args .h) (words (c .before .before .before .before .before .before .before .before .before .args .img .now)) (c .before .before .before .before .before .before .before .before .before .args .i) (c .before .before .before .before .before .before .before .before .before .args .above) (c .before .before .before .before .before .before .before .before .before .args .low) _ (sym (c .before .before .before .before .before .before .before .visit .ensures) ∙ c .before .before .before .before .before .x2 .given .1) .0, ← c .before .before .leading-equal2 .ensures, lt-ltb _ _ (c .if2 .taken))
 
 enum-told : tie.Need-enum-told
 enum-told c = search needs
 
 returns-3 : tie.Need-returns-3
-returns-3 c = ?
+unfolding lookupTurn
+returns-3 c = simp (turn-inner (lookupTurn (c .before .before .before .before .before .before .before .before .before .before .before .args .key)) (c .before .before .before .before .before .before .before .before .before .before .before .args .h) (words (c .before .before .before .before .before .before .before .before .before .before .before .args .img .now)) (c .before .before .before .before .before .before .before .before .before .before .before .args .i) (c .before .before .before .before .before .before .before .before .before .before .before .args .above) (c .before .before .before .before .before .before .before .before .before .before .before .args .low) _ (sym (c .before .before .before .before .before .before .before .before .before .visit .ensures) ∙ c .before .before .before .before .before .before .before .x .given .1) .0, turn-inner (lookupTurn (c .before .before .before .before .before .before .before .before .before .before .before .args .key)) (c .before .before .before .before .before .before .before .before .before .before .before .args .h) (words (c .before .before .before .before .before .before .before .before .before .before .before .args .img .now)) (c .before .before .before .before .before .before .before .before .before .before .before .args .i) (c .before .before .before .before .before .before .before .before .before .before .before .args .above) (c .before .before .before .before .before .before .before .before .before .before .before .args .low) _ (sym (c .before .before .before .before .before .before .before .before .before .visit .ensures) ∙ c .before .before .before .before .before .before .before .x .given .1) .1, ← c .before .before .before .before .leading-equal .ensures, le-ltb _ _ (c .before .before .if1 .left), c .before .child .ensures)
 
 returns-4 : tie.Need-returns-4
-returns-4 c = ?
+unfolding lookupTurn
+returns-4 c = simp (turn-leaf (lookupTurn (c .before .before .before .before .before .before .before .before .before .args .key)) (c .before .before .before .before .before .before .before .before .before .args .h) (words (c .before .before .before .before .before .before .before .before .before .args .img .now)) (c .before .before .before .before .before .before .before .before .before .args .i) (c .before .before .before .before .before .before .before .before .before .args .above) (c .before .before .before .before .before .before .before .before .before .args .low) _ (sym (c .before .before .before .before .before .before .before .visit .ensures) ∙ c .before .before .before .before .before .x2 .given .1) .0, turn-leaf (lookupTurn (c .before .before .before .before .before .before .before .before .before .args .key)) (c .before .before .before .before .before .before .before .before .before .args .h) (words (c .before .before .before .before .before .before .before .before .before .args .img .now)) (c .before .before .before .before .before .before .before .before .before .args .i) (c .before .before .before .before .before .before .before .before .before .args .above) (c .before .before .before .before .before .before .before .before .before .args .low) _ (sym (c .before .before .before .before .before .before .before .visit .ensures) ∙ c .before .before .before .before .before .x2 .given .1) .1, ← c .before .before .leading-equal2 .ensures, le-ltb _ _ (c .if2 .left))
 
 returns-5 : tie.Need-returns-5
-returns-5 c = ?
+returns-5 c = sym (turn-damaged (lookupTurn (c .before .before .before .before .args .key)) (c .before .before .before .before .args .h) (words (c .before .before .before .before .args .img .now)) (c .before .before .before .before .args .i) (c .before .before .before .before .args .above) (c .before .before .before .before .args .low) (sym (c .before .before .visit .ensures) ∙ c .enum-told .given .1))
 
 pub lookup-turn-spec : {M : Type 1} → statement M
 lookup-turn-spec =
