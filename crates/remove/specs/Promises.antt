@@ -10,6 +10,7 @@ use lib.ListN.{length}
 use lib.Dec.{eqb}
 use borrow.Author.Tests.{eq-eqb, ne-eqb}
 use Rattle.words.specs.Words.{Bytes}
+use Rattle.words.specs.Tests.{either-way}
 use Rattle.keys.specs.declared.Key.{Key}
 use Rattle.keys.specs.Number.{numberOf}
 use Rattle.records.specs.declared.Header.{Header}
@@ -21,7 +22,7 @@ use Rattle.records.specs.Layout.{imageOf}
 use Rattle.records.specs.Records.{headerOf, nodeOf}
 use Rattle.records.specs.Numbers.{refusalNumber, gotNumber, gotValue, zeroValue}
 use Rattle.inspection.specs.declared.Opened.the-variants.{Good}
-use Rattle.inspection.specs.Tests.{shapeOk, topOk, usedNode, nodeOk, liveValue}
+use Rattle.inspection.specs.Tests.{shapeOk, topOk, usedNode, nodeOk, rootOk, liveValue}
 use Rattle.inspection.specs.Visit.{liveOf}
 use Rattle.inspection.specs.Opening.{openShaped, openOf}
 use Rattle.inspection.specs.Answers.{Opens, misshapen, unsound, sound, opens}
@@ -30,7 +31,7 @@ use Rattle.inspection.specs.Room.{opened-whole}
 use Rattle.descent.specs.declared.Stop.{Stop}
 use Rattle.descent.specs.declared.Stop.the-variants as stop
 use Rattle.descent.specs.declared.Turn.the-variants.{Down, Halt}
-use Rattle.descent.specs.Descent.{isInner, childOf, bitsTurn, turnAt, follow, descend, fromRoot, leafOf}
+use Rattle.descent.specs.Descent.{isInner, childOf, bitsTurn, turnAt, follow, descend, noNode, fromRoot, leafOf}
 use Rattle.remove.specs.declared.Plan.{Plan}
 use Rattle.remove.specs.declared.Plan.the-variants.{Lone, Cut, Refused}
 use Rattle.remove.specs.Plan.{siblingOf, siblingOk, cutPlan, leafPlan, stopPlan}
@@ -57,7 +58,7 @@ refused-zeros (got.Refused r) some = refl
 
 -- ---- a descent by the key's bits alone ends at a leaf, in an empty map or at damage
 
-parts : Stop → Bool
+abbrev parts : Stop → Bool
 parts (stop.Leaf i x) = false
 parts (stop.Parted i x shared) = true
 parts stop.Empty = false
@@ -81,7 +82,9 @@ module _ (h : Header) (ws : List ℕ) (key : Key) where
 
   leaf-apart : parts (leafOf h ws key) ≡ false
   unfolding fromRoot
-  leaf-apart = ?
+  leaf-apart =
+      either-way (λ e. parts e ≡ false) (eqb (h .values .size) 0) _ _ refl
+      (either-way (λ e. parts e ≡ false) (rootOk h ws) _ _ (descend-apart 129 (h .root) noNode 0) refl)
 
 -- ---- the numbers, "when, and only then"
 

@@ -75,8 +75,20 @@ fn move_sibling(img: &mut [u8], n: u32, p: NodeIndex, above: NodeIndex, z: Node)
     ensures { λ _. ⌜ words (now (img .exit)) ≡ moved n (words (now (img .entry))) (p .0) (above .0) z ⌝ }
 {
     set_node(img, n, p, with_parent(above, z));
-    set_register(img, Arena::Nodes { nodes: n }, z.left.0, p.0, Register::Parent);
-    set_register(img, Arena::Nodes { nodes: n }, z.right.0, p.0, Register::Parent);
+    set_register(
+        img,
+        Arena::Nodes { nodes: n },
+        z.left.0,
+        p.0,
+        Register::Parent,
+    );
+    set_register(
+        img,
+        Arena::Nodes { nodes: n },
+        z.right.0,
+        p.0,
+        Register::Parent,
+    );
 }
 
 // The sibling's old node `s`, whose record was `z`, is freed; `c` is the nodes' header. Its Parent word stays.
@@ -99,7 +111,17 @@ pub fn remove_lone(img: &mut [u8], m: u32, n: u32, h: Header, i: NodeIndex, x: N
 }
 
 // A leaf `i` below a node, whose record is `y`: the leaf is freed, and its sibling `s` moves into that node.
-pub fn remove_cut(img: &mut [u8], m: u32, n: u32, h: Header, i: NodeIndex, x: Node, y: Node, s: NodeIndex, z: Node)
+pub fn remove_cut(
+    img: &mut [u8],
+    m: u32,
+    n: u32,
+    h: Header,
+    i: NodeIndex,
+    x: Node,
+    y: Node,
+    s: NodeIndex,
+    z: Node,
+)
     requires { ⌜ 48 * n + 32 * m + 48 ≤ length (now img) ⌝ }
     ensures { λ _. ⌜ words (now (img .exit)) ≡ cutImage m n (words (now (img .entry))) h (i .0) x y (s .0) z ⌝ }
 {
