@@ -1,4 +1,5 @@
--- The plan of a leaf below a node, by what the visit of its sibling comes to: a leaf, an inner node, whose children are then tested, or damage.
+-- The plan of a leaf below a node, by what the visit of its sibling comes to: a leaf, an inner node, whose children
+-- are then tested, or damage.
 use mathlib.Core.Path.{_≡_, sym, _∙_}
 use mathlib.Core.List.{List}
 use mathlib.Core.Logic.{inl, inr}

@@ -1,5 +1,5 @@
--- The bench example of remove, computed (rule B9): M = 4, N = 8, 140 words; A is 2^127, B is 0 and C is 1. Removing A leaves node size 3, free nodes 2, 3
--- and value head 1. Removing it again answers 4 and changes nothing.
+-- The bench example of remove, computed (rule B9): M = 4, N = 8, 140 words; A is 2^127, B is 0 and C is 1. Removing A
+-- leaves node size 3, free nodes 2, 3 and value head 1. Removing it again answers 4 and changes nothing.
 use mathlib.Core.Path.{_≡_, refl}
 use mathlib.Core.List.{List, [], _∷_, _++_}
 use Prim.Native.Nat.{ℕ, _^_}

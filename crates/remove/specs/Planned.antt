@@ -1,5 +1,6 @@
--- What a plan tells of the buffer that it was made on. One that writes was made on an image that opens, so that the image is the buffer's words, the buffer
--- has room for what is stored, and the words that the steps leave are the image afterwards.
+-- What a plan tells of the buffer that it was made on. One that writes was made on an image that opens, so that the
+-- image is the buffer's words, the buffer has room for what is stored, and the words that the steps leave are the
+-- image afterwards.
 use mathlib.Core.Path.{_≡_, refl, sym, ap, _∙_}
 use mathlib.Core.List.{List}
 use mathlib.Core.Bool.{Bool, true, false, false≢true}

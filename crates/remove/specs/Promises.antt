@@ -1,5 +1,5 @@
--- The demands on one call, for remove: a refusal leaves every word and answers zeros (rules D1c, R8), each number stands for its case and for no other
--- (section R), and no second outcome fits the contract (rule E1).
+-- The demands on one call, for remove: a refusal leaves every word and answers zeros (rules D1c, R8), each number
+-- stands for its case and for no other (section R), and no second outcome fits the contract (rule E1).
 use mathlib.Core.Path.{_≡_, refl, sym, ap, _∙_, subst}
 use mathlib.Core.List.{List}
 use mathlib.Core.Bool.{Bool, true, false, cond, _&&_, true≢false}

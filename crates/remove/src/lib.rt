@@ -1,5 +1,5 @@
-// Remove: a key's leaf leaves the map, and its sibling moves into the node above. Everything is tested before the first write, so that a
-// refusal leaves every byte as it was.
+// Remove: a key's leaf leaves the map, and its sibling moves into the node above. Everything is tested before the
+// first write, so that a refusal leaves every byte as it was.
 mod tests; // tests.rt: what remove tests, and so what it is going to do
 mod steps; // steps.rt: what it then writes
 
@@ -19,8 +19,8 @@ ghost use Rattle.records.specs.Numbers.{gotNumber};
 ghost use Rattle.inspection.specs.Outcome.{Leaves};
 ghost use Rattle.remove.specs.Steps.{removeOf, removedImage};
 
-// What remove is going to do, found out before any write: the header, the leaf's index and record, and the value that it held. A leaf below a node
-// comes with that node's record and with its sibling's index and record.
+// What remove is going to do, found out before any write: the header, the leaf's index and record, and the value that
+// it held. A leaf below a node comes with that node's record and with its sibling's index and record.
 pub enum Plan {
     Lone(Header, NodeIndex, Node, Value),
     Cut(Header, NodeIndex, Node, Node, NodeIndex, Node, Value),

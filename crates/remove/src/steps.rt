@@ -1,4 +1,5 @@
-// What remove writes, in the Rust's order. Nothing is tested here: the plan has passed the tests. Each record that changes is stored as a whole.
+// What remove writes, in the Rust's order. Nothing is tested here: the plan has passed the tests. Each record that
+// changes is stored as a whole.
 use node_allocator::Arena;
 use node_allocator::Counts;
 use node_allocator::Register;
@@ -74,21 +75,10 @@ fn move_sibling(img: &mut [u8], n: u32, p: NodeIndex, above: NodeIndex, z: Node)
     requires { ⌜ 48 * n + 32 ≤ length (now img) ⌝ }
     ensures { λ _. ⌜ words (now (img .exit)) ≡ moved n (words (now (img .entry))) (p .0) (above .0) z ⌝ }
 {
+    let nodes = Arena::Nodes { nodes: n };
     set_node(img, n, p, with_parent(above, z));
-    set_register(
-        img,
-        Arena::Nodes { nodes: n },
-        z.left.0,
-        p.0,
-        Register::Parent,
-    );
-    set_register(
-        img,
-        Arena::Nodes { nodes: n },
-        z.right.0,
-        p.0,
-        Register::Parent,
-    );
+    set_register(img, nodes, z.left.0, p.0, Register::Parent);
+    set_register(img, nodes, z.right.0, p.0, Register::Parent);
 }
 
 // The sibling's old node `s`, whose record was `z`, is freed; `c` is the nodes' header. Its Parent word stays.
