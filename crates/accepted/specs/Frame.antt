@@ -1,19 +1,15 @@
 -- What the rules of an image depend on: its header, its nodes, its value records and its unused words. An image in which these stay as they were keeps every rule.
-use mathlib.Core.Path.{_≡_, refl, sym, ap, subst, _∙_}
+use mathlib.Core.Path.{_≡_, refl, ap, subst, _∙_}
 use mathlib.Core.List.{List, [], _∷_}
-use mathlib.Core.Logic.{_≢_, _⊎_, inl, inr}
-use mathlib.Core.Option.{Option, none, some}
-use Prim.Native.Nat.{ℕ, _+_, _-_, _*_, _≤_, _<_}
+use mathlib.Core.Logic.{_≢_, inl, inr}
+use mathlib.Core.Option.{some}
+use Prim.Native.Nat.{ℕ, _+_, _-_, _≤_, _<_}
 use native.Mathlib.Omega.{arith}
-use Rattle.node_allocator.specs.declared.Field.the-variants as field
 use Rattle.records.specs.declared.Header.{Header}
-use Rattle.records.specs.declared.Node.{Node}
-use Rattle.records.specs.declared.ValueRecord.{ValueRecord}
-use Rattle.records.specs.Records.{nodeOf, valueRecordOf}
+use Rattle.records.specs.Records.{nodeOf, withParent}
 use Rattle.lists.specs.Lists.{All}
 use Rattle.trees.specs.Tree.{Tree, leaf, inner, top}
 use Rattle.trees.specs.Nodes.{In}
-use Rattle.record_views.specs.Nodes.{withField}
 use Rattle.accepted.specs.Rules.{Holds, Chain}
 use Rattle.accepted.specs.Held.{once}
 
@@ -37,14 +33,14 @@ holds-kept h g ws vs p q parent low (inner i key c l r) e k =
 
 -- and where its top has another Parent, and no other node changes
 pub holds-moved : (h g : Header) (ws vs : List ℕ) → h .nodes .bump ≤ g .nodes .bump → h .values .bump ≤ g .values .bump → (parent parent′ low : ℕ) (t : Tree)
-    → nodeOf vs (top t) ≡ withField field.Parent parent′ (nodeOf ws (top t)) → ((y : ℕ) → In y t → y ≢ top t → nodeOf vs y ≡ nodeOf ws y)
+    → nodeOf vs (top t) ≡ withParent parent′ (nodeOf ws (top t)) → ((y : ℕ) → In y t → y ≢ top t → nodeOf vs y ≡ nodeOf ws y)
     → Holds h ws parent low t → Holds g vs parent′ low t
 unfolding Holds
 holds-moved h g ws vs b c parent parent′ low (leaf i key v) e kept k =
     record {
       index-some = k .index-some;
       index-used = omega (arith, k .index-used);
-      here = e ∙ ap (withField field.Parent parent′) (k .here);
+      here = e ∙ ap (withParent parent′) (k .here);
       rises = k .rises;
       value-some = k .value-some;
       value-used = omega (arith, k .value-used);
@@ -54,7 +50,7 @@ holds-moved h g ws vs b c parent parent′ low (inner i key p l r) e kept k =
     record {
       index-some = k .index-some;
       index-used = omega (arith, k .index-used);
-      here = e ∙ ap (withField field.Parent parent′) (k .here);
+      here = e ∙ ap (withParent parent′) (k .here);
       rises = k .rises;
       short = k .short;
       two = k .two;

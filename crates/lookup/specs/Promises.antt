@@ -12,9 +12,10 @@ use Rattle.keys.specs.declared.Key.{Key}
 use Rattle.records.specs.declared.Header.{Header}
 use Rattle.records.specs.declared.Value.{Value}
 use Rattle.records.specs.declared.NodeIndex.{NodeIndex}
-use Rattle.records.specs.declared.ValueIndex.{ValueIndex}
+use Rattle.records.specs.declared.Node.{Node}
 use Rattle.records.specs.declared.Refusal.{Refusal}
 use Rattle.records.specs.declared.Refusal.the-variants as no
+use Rattle.inspection.specs.declared.Live.the-variants as live
 use Rattle.inspection.specs.declared.Opened.{Opened}
 use Rattle.inspection.specs.declared.Opened.the-variants.{Good, Shut}
 use Rattle.records.specs.declared.Done.{Done}
@@ -28,9 +29,10 @@ use Rattle.records.specs.declared.Entry.the-variants as entry
 use Rattle.records.specs.declared.Count.{Count}
 use Rattle.records.specs.declared.Count.the-variants as count
 use Rattle.records.specs.Layout.{imageOf}
-use Rattle.records.specs.Records.{headerOf, valueRecordOf}
-use Rattle.inspection.specs.Tests.{shapeOk, headerOk, liveValue}
-use Rattle.inspection.specs.Opening.{openOf}
+use Rattle.records.specs.Records.{valueRecordOf}
+use Rattle.inspection.specs.Visit.{liveOf}
+use Rattle.inspection.specs.Tests.{shapeOk, topOk, liveValue}
+use Rattle.inspection.specs.Opening.{openOf, blankOf}
 use Rattle.records.specs.Numbers.{refusalNumber, doneNumber, gotNumber, placeNumber, entryNumber, countNumber, doneFlag, gotValue, placeIndex, entryKey, entryValue, countIs, zeroValue, zeroKey}
 use Rattle.inspection.specs.Room.{opened-whole, shaped-whole}
 use Rattle.inspection.specs.Outcome.{Leaves, one-outcome}
@@ -40,90 +42,94 @@ use Rattle.descent.specs.declared.Stop.the-variants as stop
 use Rattle.descent.specs.Descent.{findOf, endOf}
 use Rattle.lookup.specs.declared.Target.{Target}
 use Rattle.lookup.specs.declared.Target.the-variants.{At, No}
-use Rattle.lookup.specs.Start.{started, startOf, startImage, doneImage, started-shaped, openedLength, lengthOf, openedCapacity, capacityOf}
-use Rattle.lookup.specs.Get.{leafTarget, stopTarget, openedTarget, targetOf, target-opened, targetGot, getOf, targetDone, writeOf, targetImage, writeImage, stopDone, openedDone, containsOf, stopPlace, openedPlace, addrOf}
+use Rattle.lookup.specs.Start.{started, startOf, startImage, doneImage, started-shaped, openedLength, lengthOf, openedCapacity, capacityReply}
+use Rattle.lookup.specs.Get.{liveTarget, stopTarget, openedTarget, targetOf, target-opened, targetGot, getOf, targetDone, writeOf, targetImage, writeImage, stopDone, openedDone, containsOf, stopPlace, openedPlace, addrOf}
 use Rattle.lookup.specs.Ends.{targetEntry, openedEntry, endEntry}
 
 -- ---- what a stop comes to: absent where the key parts, damaged where a test fails
 
 -- the descent stopped at damage, or at a leaf whose value record fails
-abbrev pub Failed : ℕ → List ℕ → Stop → Type 0
-Failed n ws s = (s ≡ stop.Damaged) ⊎ ((i : NodeIndex) × (j : ValueIndex) × (s ≡ stop.Leaf i j) × (liveValue (valueRecordOf n ws (j .0)) ≡ false))
+pub data Failed (n : ℕ) (ws : List ℕ) : Stop → Type 0 where
+  visited : Failed n ws stop.Damaged
+  record-fails : (i : NodeIndex) (x : Node) → liveValue n ws (i .0) (x .value .0) ≡ false → Failed n ws (stop.Leaf i x)
 
-abbrev pub Away : Stop → Type 0
-Away s = (i : NodeIndex) × (s ≡ stop.Parted i)
+-- the map is empty, or the key parts from it at a node
+pub data Away : Stop → Type 0 where
+  nothing : Away stop.Empty
+  parted : (i : NodeIndex) (x : Node) (shared : ℕ) → Away (stop.Parted i x shared)
 
 unfoldable pub targetNumber : Target → ℕ
-targetNumber (At i j v) = 0
+targetNumber (At i x v) = 0
 targetNumber (No r) = refusalNumber r
 
+-- at a leaf
+module _ (n : ℕ) (ws : List ℕ) (i : NodeIndex) (x : Node) where
+  abbrev at-leaf : Bool → ℕ
+  at-leaf b = targetNumber (liveTarget i x (cond b (live.Holds (valueRecordOf n ws (x .value .0) .value)) live.Not))
+
+  leaf-damaged : (b : Bool) → liveValue n ws (i .0) (x .value .0) ≡ b → (at-leaf b ≡ 2) ↔ Failed n ws (stop.Leaf i x)
+  unfolding targetNumber liveTarget refusalNumber
+  leaf-damaged true t = ((λ e. absurd (omega arith)), λ f. absurd (when f))
+    where
+      when : Failed n ws (stop.Leaf i x) → ⊥
+      when (record-fails j y e) = true≢false (sym t ∙ e)
+  leaf-damaged false t = ((λ e. record-fails i x t), λ f. refl)
+
+  leaf-number : (b : Bool) (k : ℕ) → at-leaf b ≡ k → (k ≡ 0) ⊎ (k ≡ 2)
+  unfolding targetNumber liveTarget refusalNumber
+  leaf-number true k e = inl (sym e)
+  leaf-number false k e = inr (sym e)
+
 target-damaged : (n : ℕ) (ws : List ℕ) (s : Stop) → (targetNumber (stopTarget n ws s) ≡ 2) ↔ Failed n ws s
-unfolding targetNumber stopTarget leafTarget refusalNumber
-target-damaged n ws (stop.Leaf i j) = go (liveValue (valueRecordOf n ws (j .0))) refl
-  where
-    v : Value
-    v = valueRecordOf n ws (j .0) .value
-
-    when : Failed n ws (stop.Leaf i j) → liveValue (valueRecordOf n ws (j .0)) ≡ true → ⊥
-    when (inl e) t = let z : _≡_ {A = ℕ} 0 1 = cc in omega arith
-    when (inr (k, l, e, f)) t =
-        let same : j ≡ l = cc in
-        true≢false (sym t ∙ ap (λ (q : ValueIndex). liveValue (valueRecordOf n ws (q .0))) same ∙ f)
-
-    go : (b : Bool) → liveValue (valueRecordOf n ws (j .0)) ≡ b → (targetNumber (cond b (At i j v) (No no.Damaged)) ≡ 2) ↔ Failed n ws (stop.Leaf i j)
-    go true t = ((λ e. absurd (omega arith)), λ f. absurd (when f t))
-    go false t = ((λ e. inr (i, j, refl, t)), λ f. refl)
-target-damaged n ws (stop.Parted i) = ((λ e. absurd (omega arith)), λ f. absurd (when f))
-  where
-    when : Failed n ws (stop.Parted i) → ⊥
-    when (inl e) = let z : _≡_ {A = ℕ} 0 1 = cc in omega arith
-    when (inr (k, l, e, f)) = let z : _≡_ {A = ℕ} 0 1 = cc in omega arith
-target-damaged n ws stop.Damaged = ((λ e. inl refl), λ f. refl)
+unfolding targetNumber stopTarget refusalNumber liveOf
+target-damaged n ws (stop.Leaf i x) = leaf-damaged n ws i x (liveValue n ws (i .0) (x .value .0)) refl
+target-damaged n ws (stop.Parted i x c) = ((λ e. absurd (omega arith)), λ f. elim f [ ])
+target-damaged n ws stop.Empty = ((λ e. absurd (omega arith)), λ f. elim f [ ])
+target-damaged n ws stop.Damaged = ((λ e. visited), λ f. refl)
 
 target-absent : (n : ℕ) (ws : List ℕ) (s : Stop) → (targetNumber (stopTarget n ws s) ≡ 4) ↔ Away s
-unfolding targetNumber stopTarget leafTarget refusalNumber
-target-absent n ws (stop.Leaf i j) = ((λ e. absurd (go (liveValue (valueRecordOf n ws (j .0))) e)), λ f. absurd (never f))
+unfolding targetNumber stopTarget refusalNumber liveOf
+target-absent n ws (stop.Leaf i x) = ((λ e. absurd (go (leaf-number n ws i x (liveValue n ws (i .0) (x .value .0)) 4 e))), λ f. elim f [ ])
   where
-    go : (b : Bool) → targetNumber (cond b (At i j (valueRecordOf n ws (j .0) .value)) (No no.Damaged)) ≡ 4 → ⊥
-    go true e = omega arith
-    go false e = omega arith
-
-    never : Away (stop.Leaf i j) → ⊥
-    never (k, e) = let z : _≡_ {A = ℕ} 0 1 = cc in omega arith
-target-absent n ws (stop.Parted i) = ((λ e. (i, refl)), λ f. refl)
-target-absent n ws stop.Damaged = ((λ e. absurd (omega arith)), λ f. absurd (never f))
-  where
-    never : Away stop.Damaged → ⊥
-    never (k, e) = let z : _≡_ {A = ℕ} 0 1 = cc in omega arith
+    go : (_≡_ {A = ℕ} 4 0) ⊎ (_≡_ {A = ℕ} 4 2) → ⊥
+    go (inl e) = omega arith
+    go (inr e) = omega arith
+target-absent n ws (stop.Parted i x c) = ((λ e. parted i x c), λ f. refl)
+target-absent n ws stop.Empty = ((λ e. nothing), λ f. refl)
+target-absent n ws stop.Damaged = ((λ e. absurd (omega arith)), λ f. elim f [ ])
 
 -- no other number comes of a stop
 target-numbers : (n : ℕ) (ws : List ℕ) (s : Stop) (k : ℕ) → targetNumber (stopTarget n ws s) ≡ k → (k ≡ 0) ⊎ ((k ≡ 2) ⊎ (k ≡ 4))
-unfolding targetNumber stopTarget leafTarget refusalNumber
-target-numbers n ws (stop.Leaf i j) k e = go (liveValue (valueRecordOf n ws (j .0))) e
+unfolding targetNumber stopTarget refusalNumber liveOf
+target-numbers n ws (stop.Leaf i x) k e = go (leaf-number n ws i x (liveValue n ws (i .0) (x .value .0)) k e)
   where
-    go : (b : Bool) → targetNumber (cond b (At i j (valueRecordOf n ws (j .0) .value)) (No no.Damaged)) ≡ k → (k ≡ 0) ⊎ ((k ≡ 2) ⊎ (k ≡ 4))
-    go true e = inl (sym e)
-    go false e = inr (inl (sym e))
-target-numbers n ws (stop.Parted i) k e = inr (inr (sym e))
+    go : (k ≡ 0) ⊎ (k ≡ 2) → (k ≡ 0) ⊎ ((k ≡ 2) ⊎ (k ≡ 4))
+    go (inl q) = inl q
+    go (inr q) = inr (inl q)
+target-numbers n ws (stop.Parted i x c) k e = inr (inr (sym e))
+target-numbers n ws stop.Empty k e = inr (inr (sym e))
 target-numbers n ws stop.Damaged k e = inr (inl (sym e))
 
 -- contains and get_addr test no value record
 stop-damaged : (s : Stop) → (doneNumber (stopDone s) ≡ 2) ↔ (s ≡ stop.Damaged)
 unfolding doneNumber stopDone refusalNumber
-stop-damaged (stop.Leaf i j) = ((λ e. absurd (omega arith)), λ f. let z : _≡_ {A = ℕ} 0 1 = cc in absurd (omega arith))
-stop-damaged (stop.Parted i) = ((λ e. absurd (omega arith)), λ f. let z : _≡_ {A = ℕ} 0 1 = cc in absurd (omega arith))
+stop-damaged (stop.Leaf i x) = ((λ e. absurd (omega arith)), λ f. let z : _≡_ {A = ℕ} 0 1 = cc in absurd (omega arith))
+stop-damaged (stop.Parted i x c) = ((λ e. absurd (omega arith)), λ f. let z : _≡_ {A = ℕ} 0 1 = cc in absurd (omega arith))
+stop-damaged stop.Empty = ((λ e. absurd (omega arith)), λ f. let z : _≡_ {A = ℕ} 0 1 = cc in absurd (omega arith))
 stop-damaged stop.Damaged = ((λ e. refl), λ f. refl)
 
 stop-absent : (s : Stop) → (doneNumber (stopDone s) ≡ 4) ↔ Away s
 unfolding doneNumber stopDone refusalNumber
-stop-absent (stop.Leaf i j) = ((λ e. absurd (omega arith)), λ f. let e = f .1 in let z : _≡_ {A = ℕ} 0 1 = cc in absurd (omega arith))
-stop-absent (stop.Parted i) = ((λ e. (i, refl)), λ f. refl)
-stop-absent stop.Damaged = ((λ e. absurd (omega arith)), λ f. let e = f .1 in let z : _≡_ {A = ℕ} 0 1 = cc in absurd (omega arith))
+stop-absent (stop.Leaf i x) = ((λ e. absurd (omega arith)), λ f. elim f [ ])
+stop-absent (stop.Parted i x c) = ((λ e. parted i x c), λ f. refl)
+stop-absent stop.Empty = ((λ e. nothing), λ f. refl)
+stop-absent stop.Damaged = ((λ e. absurd (omega arith)), λ f. elim f [ ])
 
 stop-numbers : (s : Stop) (k : ℕ) → doneNumber (stopDone s) ≡ k → (k ≡ 0) ⊎ ((k ≡ 2) ⊎ (k ≡ 4))
 unfolding doneNumber stopDone refusalNumber
-stop-numbers (stop.Leaf i j) k e = inl (sym e)
-stop-numbers (stop.Parted i) k e = inr (inr (sym e))
+stop-numbers (stop.Leaf i x) k e = inl (sym e)
+stop-numbers (stop.Parted i x c) k e = inr (inr (sym e))
+stop-numbers stop.Empty k e = inr (inr (sym e))
 stop-numbers stop.Damaged k e = inr (inl (sym e))
 
 -- ---- the numbers of a call that descends, each when, and only then
@@ -132,7 +138,7 @@ stop-numbers stop.Damaged k e = inr (inl (sym e))
 pub record Numbers (m n : ℕ) (ws : List ℕ) (seek : Header → Stop) (Bad : Stop → Type 0) (number : ℕ) : Type 0 where
   pub shape : (number ≡ 1) ↔ (shapeOk m n (length ws) ≡ false)
   pub damaged : (number ≡ 2)
-      ↔ (((shapeOk m n (length ws) ≡ true) × (headerOk m n (headerOf n ws) ≡ false)) ⊎ ((h : Header) × (openOf m n ws ≡ Good h) × Bad (seek h)))
+      ↔ (((shapeOk m n (length ws) ≡ true) × (topOk m n ws ≡ false)) ⊎ ((h : Header) × (openOf m n ws ≡ Good h) × Bad (seek h)))
   pub absent : (number ≡ 4) ↔ ((h : Header) × (openOf m n ws ≡ Good h) × Away (seek h))
   pub no-other : (number ≡ 0) ⊎ ((number ≡ 1) ⊎ ((number ≡ 2) ⊎ (number ≡ 4)))
 
@@ -172,7 +178,7 @@ module _ (m n : ℕ) (ws : List ℕ) (f : Opened → ℕ) (shut : (r : Refusal) 
       }
     where
       Header-fails : Type 0
-      Header-fails = (shapeOk m n (length ws) ≡ true) × (headerOk m n (headerOf n ws) ≡ false)
+      Header-fails = (shapeOk m n (length ws) ≡ true) × (topOk m n ws ≡ false)
 
       narrow : Header-fails ⊎ ((h : Header) × (openOf m n ws ≡ Good h) × (f (Good h) ≡ 2)) → Header-fails ⊎ ((h : Header) × (openOf m n ws ≡ Good h) × Bad (seek h))
       narrow (inl a) = inl a
@@ -193,12 +199,12 @@ module _ (m n : ℕ) (ws : List ℕ) (key : Key) where
 
   got-target : (t : Target) → gotNumber (targetGot t) ≡ targetNumber t
   unfolding gotNumber targetGot targetNumber
-  got-target (At i j v) = refl
+  got-target (At i x v) = refl
   got-target (No r) = refl
 
   done-target : (t : Target) → doneNumber (targetDone t) ≡ targetNumber t
   unfolding doneNumber targetDone targetNumber
-  done-target (At i j v) = refl
+  done-target (At i x v) = refl
   done-target (No r) = refl
 
   pub get-numbers : Numbers m n ws (λ h. findOf h ws key) (Failed n ws) (gotNumber (getOf m n ws key))
@@ -217,8 +223,9 @@ module _ (m n : ℕ) (ws : List ℕ) (key : Key) where
 
   place-stop : (s : Stop) → placeNumber (stopPlace s) ≡ doneNumber (stopDone s)
   unfolding placeNumber stopPlace doneNumber stopDone
-  place-stop (stop.Leaf i j) = refl
-  place-stop (stop.Parted i) = refl
+  place-stop (stop.Leaf i x) = refl
+  place-stop (stop.Parted i x c) = refl
+  place-stop stop.Empty = refl
   place-stop stop.Damaged = refl
 
   pub addr-numbers : Numbers m n ws (λ h. findOf h ws key) (λ s. s ≡ stop.Damaged) (placeNumber (addrOf m n ws key))
@@ -228,16 +235,16 @@ module _ (m n : ℕ) (ws : List ℕ) (key : Key) where
       (λ h. place-stop (findOf h ws key)) stop-damaged stop-absent stop-numbers
 
 -- smallest and largest: absent exactly in an empty map
-entry-target : (ws : List ℕ) (t : Target) → entryNumber (targetEntry ws t) ≡ targetNumber t
+entry-target : (t : Target) → entryNumber (targetEntry t) ≡ targetNumber t
 unfolding entryNumber targetEntry targetNumber
-entry-target ws (At i j v) = refl
-entry-target ws (No r) = refl
+entry-target (At i x v) = refl
+entry-target (No r) = refl
 
 pub end-numbers : (m n : ℕ) (ws : List ℕ) (right : Bool) → Numbers m n ws (λ h. endOf h ws right) (Failed n ws) (entryNumber (endEntry m n ws right))
 unfolding endEntry openedEntry entryNumber
 end-numbers m n ws right =
     numbers m n ws (λ o. entryNumber (openedEntry n ws right o)) (λ r. refl) (λ h. endOf h ws right) (Failed n ws) (λ s. targetNumber (stopTarget n ws s))
-    (λ h. entry-target ws (stopTarget n ws (endOf h ws right))) (target-damaged n ws) (target-absent n ws) (target-numbers n ws)
+    (λ h. entry-target (stopTarget n ws (endOf h ws right))) (target-damaged n ws) (target-absent n ws) (target-numbers n ws)
 
 -- length and capacity refuse by shape and header alone
 pub length-numbers : (m n : ℕ) (ws : List ℕ) → (countNumber (lengthOf m n ws) ≡ 1) ↔ (shapeOk m n (length ws) ≡ false)
@@ -245,12 +252,12 @@ unfolding lengthOf openedLength countNumber
 length-numbers m n ws = shape-exactly (λ o. countNumber (openedLength o)) (λ r. refl) m n ws (λ h e. omega arith)
 
 pub length-damaged : (m n : ℕ) (ws : List ℕ) → (countNumber (lengthOf m n ws) ≡ 2)
-    ↔ (((shapeOk m n (length ws) ≡ true) × (headerOk m n (headerOf n ws) ≡ false)) ⊎ ((h : Header) × (openOf m n ws ≡ Good h) × (countNumber (openedLength (Good h)) ≡ 2)))
+    ↔ (((shapeOk m n (length ws) ≡ true) × (topOk m n ws ≡ false)) ⊎ ((h : Header) × (openOf m n ws ≡ Good h) × (countNumber (openedLength (Good h)) ≡ 2)))
 unfolding lengthOf openedLength countNumber
 length-damaged m n ws = damage-exactly (λ o. countNumber (openedLength o)) (λ r. refl) m n ws
 
-pub capacity-as-length : (m n : ℕ) (ws : List ℕ) → countNumber (capacityOf m n ws) ≡ countNumber (lengthOf m n ws)
-unfolding capacityOf lengthOf openedCapacity openedLength countNumber
+pub capacity-as-length : (m n : ℕ) (ws : List ℕ) → countNumber (capacityReply m n ws) ≡ countNumber (lengthOf m n ws)
+unfolding capacityReply lengthOf openedCapacity openedLength countNumber
 capacity-as-length m n ws = go (openOf m n ws)
   where
     go : (o : Opened) → countNumber (openedCapacity m o) ≡ countNumber (openedLength o)
@@ -262,7 +269,7 @@ pub start-numbers : (m n : ℕ) (ws : List ℕ)
     → ((doneNumber (startOf m n ws) ≡ 1) ↔ (shapeOk m n (length ws) ≡ false))
     × ((doneNumber (startOf m n ws) ≡ 5) ↔ ((shapeOk m n (length ws) ≡ true) × (zerosAt ws 0 (length ws) ≡ false)))
     × ((doneNumber (startOf m n ws) ≡ 0) ↔ ((shapeOk m n (length ws) ≡ true) × (zerosAt ws 0 (length ws) ≡ true)))
-unfolding startOf doneNumber refusalNumber
+unfolding blankOf doneNumber refusalNumber
 start-numbers m n ws = go (shapeOk m n (length ws)) (zerosAt ws 0 (length ws))
   where
     number : Bool → Bool → ℕ
@@ -283,7 +290,7 @@ pub start-kept : (m n : ℕ) (ws : List ℕ) → doneNumber (startOf m n ws) ≢
 unfolding startImage doneImage doneNumber
 start-kept m n ws e = go (startOf m n ws) e
   where
-    go : (d : Done) → doneNumber d ≢ 0 → doneImage ws (started n ws) d ≡ ws
+    go : (d : Done) → doneNumber d ≢ 0 → doneImage ws (started m n ws) d ≡ ws
     go done.Yes f = absurd (f refl)
     go (done.Refused r) f = refl
 
@@ -292,7 +299,7 @@ unfolding writeOf writeImage targetDone targetImage doneNumber
 set-kept m n ws key v e = go (targetOf m n ws key) e
   where
     go : (t : Target) → doneNumber (targetDone t) ≢ 0 → targetImage m n ws v t ≡ ws
-    go (At i j old) f = absurd (f refl)
+    go (At i x old) f = absurd (f refl)
     go (No r) f = refl
 
 pub got-zeros : (a : Got) → gotNumber a ≢ 0 → gotValue a ≡ zeroValue
@@ -335,7 +342,7 @@ unfolding writeOf targetDone doneNumber refusalNumber
 set-once m n key v {before} small small′ long long′ x y = one-outcome (λ e. whole (targetOf m n (imageOf before) key) refl e) small small′ long long′ x y
   where
     whole : (t : Target) → targetOf m n (imageOf before) key ≡ t → doneNumber (targetDone t) ≡ 0 → length before % 4 ≡ 0
-    whole (At i j w) q e = let o = target-opened m n (imageOf before) key i j w q in opened-whole m n before (o .0) (o .1)
+    whole (At i x w) q e = let o = target-opened m n (imageOf before) key i x w q in opened-whole m n before (o .0) (o .1)
     whole (No no.Shape) q e = absurd (omega arith)
     whole (No no.Damaged) q e = absurd (omega arith)
     whole (No no.Full) q e = absurd (omega arith)

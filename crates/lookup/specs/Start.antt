@@ -1,12 +1,13 @@
--- Start, length and capacity: document 01, "Refusal numbers" (1, then 5 for start) and "Start: bumps and heads 1, all else 0".
+-- Start, length and capacity: rules R1, R3, R9 and B3.
 use mathlib.Core.List.{List}
 use mathlib.Core.Bool.{Bool, true, false, cond}
 use mathlib.Core.Path.{_≡_, refl}
-use Prim.Native.Nat.{ℕ, _+_}
+use Prim.Native.Nat.{ℕ}
 use native.Mathlib.Omega.{arith}
-use lib.ListN.{length, set}
+use lib.ListN.{length}
 use Rattle.words.specs.Zeros.{zerosAt}
-use Rattle.node_allocator.specs.Layout.{valuesAt}
+use Rattle.node_allocator.specs.declared.Arena.the-variants.{Nodes, Values}
+use Rattle.node_allocator.specs.Steps.{initialized}
 use Rattle.inspection.specs.declared.Opened.{Opened}
 use Rattle.inspection.specs.declared.Opened.the-variants.{Good, Shut}
 use Rattle.records.specs.declared.Refusal.the-variants as no
@@ -15,20 +16,19 @@ use Rattle.records.specs.declared.Done.the-variants as done
 use Rattle.records.specs.declared.Count.{Count}
 use Rattle.records.specs.declared.Count.the-variants as count
 use Rattle.inspection.specs.Tests.{shapeOk}
-use Rattle.inspection.specs.Opening.{openOf}
+use Rattle.inspection.specs.Opening.{openOf, blankOf}
 
--- bumps and heads are 1
-unfoldable pub started : ℕ → List ℕ → List ℕ
-started n ws = set (set (set (set ws 6 1) 7 1) (valuesAt n + 2) 1) (valuesAt n + 3) 1
+-- both arenas are empty: bumps and heads are 1
+unfoldable pub started : ℕ → ℕ → List ℕ → List ℕ
+started m n ws = initialized (Values n m) (initialized (Nodes n) ws)
 
 -- the shape, then blank memory
-unfoldable pub startOf : ℕ → ℕ → List ℕ → Done
-startOf m n ws =
-    cond (shapeOk m n (length ws)) (cond (zerosAt ws 0 (length ws)) done.Yes (done.Refused no.NotBlank)) (done.Refused no.Shape)
+abbrev pub startOf : ℕ → ℕ → List ℕ → Done
+startOf m n ws = blankOf m n ws
 
 -- memory that may be started has the right shape
 pub started-shaped : (m n : ℕ) (ws : List ℕ) → startOf m n ws ≡ done.Yes → shapeOk m n (length ws) ≡ true
-unfolding startOf
+unfolding blankOf
 started-shaped m n ws e = go (shapeOk m n (length ws)) e
   where
     go : (b : Bool) → cond b (cond (zerosAt ws 0 (length ws)) done.Yes (done.Refused no.NotBlank)) (done.Refused no.Shape) ≡ done.Yes → b ≡ true
@@ -40,7 +40,7 @@ doneImage before after done.Yes = after
 doneImage before after (done.Refused r) = before
 
 unfoldable pub startImage : ℕ → ℕ → List ℕ → List ℕ
-startImage m n ws = doneImage ws (started n ws) (startOf m n ws)
+startImage m n ws = doneImage ws (started m n ws) (startOf m n ws)
 
 -- the number of entries stands in the header
 unfoldable pub openedLength : Opened → Count
@@ -54,5 +54,5 @@ unfoldable pub openedCapacity : ℕ → Opened → Count
 openedCapacity m (Good h) = count.Is m
 openedCapacity m (Shut r) = count.Refused r
 
-unfoldable pub capacityOf : ℕ → ℕ → List ℕ → Count
-capacityOf m n ws = openedCapacity m (openOf m n ws)
+unfoldable pub capacityReply : ℕ → ℕ → List ℕ → Count
+capacityReply m n ws = openedCapacity m (openOf m n ws)

@@ -5,7 +5,6 @@ use descent::find_end;
 use inspection::Opened;
 use inspection::open::open_image;
 use records::Entry;
-use records::read::key_of;
 ghost use mathlib.Core.Path.{_≡_};
 ghost use Rattle.records.specs.Layout.{imageOf};
 ghost use Rattle.lookup.specs.Ends.{endEntry, smallestOf, largestOf};
@@ -17,7 +16,10 @@ fn end_entry(img: &[u8], m: u32, n: u32, right: bool) -> Entry
         Opened::Good(h) => {
             let found = stop_target(img, n, find_end(img, h, right));
             match found {
-                Target::At(i, _, v) => Entry::Is(key_of(img, i), v),
+                Target::At(_, x, v) => {
+                    let key = x.key;
+                    Entry::Is(key, v)
+                }
                 Target::No(r) => Entry::Refused(r),
             }
         }

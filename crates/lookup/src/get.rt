@@ -2,36 +2,35 @@
 use crate::Target;
 use descent::Stop;
 use descent::find;
+use inspection::Live;
 use inspection::Opened;
 use inspection::open::open_image;
-use inspection::tests::live_value;
+use inspection::visit::live_value;
 use keys::Key;
 use records::Done;
 use records::Got;
+use records::Node;
 use records::NodeIndex;
 use records::Place;
 use records::Refusal;
 use records::Value;
-use records::ValueIndex;
-use records::read::value_record;
+use records::write::live_record;
 use records::write::set_value;
 ghost use mathlib.Core.Path.{_≡_};
 ghost use Rattle.words.specs.Words.{words};
 ghost use Rattle.records.specs.Layout.{imageOf};
 ghost use Rattle.records.specs.Numbers.{doneNumber};
 ghost use Rattle.inspection.specs.Outcome.{Leaves};
-ghost use Rattle.lookup.specs.Get.{leafTarget, stopTarget, targetOf, getOf, stopDone, containsOf, stopPlace, addrOf, writeOf, writeImage};
+ghost use Rattle.lookup.specs.Get.{liveTarget, stopTarget, targetOf, getOf, stopDone, containsOf, stopPlace, addrOf, writeOf, writeImage};
 
-// The value record that a leaf names, tested before its value is read or written.
-fn leaf_target(img: &[u8], n: u32, i: NodeIndex, j: ValueIndex) -> Target
-    ensures { λ r. ⌜ r ≡ leafTarget n (words (now (img .entry))) i j ⌝ }
+// A leaf, with the value that its record holds.
+fn live_target(i: NodeIndex, x: Node, live: Live) -> Target
+    ensures { λ r. ⌜ r ≡ liveTarget i x live ⌝ }
 {
-    let record = value_record(img, n, j);
-    if live_value(record) {
-        let v = record.value;
-        return Target::At(i, j, v);
+    match live {
+        Live::Holds(v) => Target::At(i, x, v),
+        Live::Not => Target::No(Refusal::Damaged),
     }
-    Target::No(Refusal::Damaged)
 }
 
 // What a descent's stop comes to.
@@ -39,13 +38,17 @@ pub fn stop_target(img: &[u8], n: u32, stop: Stop) -> Target
     ensures { λ r. ⌜ r ≡ stopTarget n (words (now (img .entry))) stop ⌝ }
 {
     match stop {
-        Stop::Leaf(i, j) => leaf_target(img, n, i, j),
-        Stop::Parted(_) => Target::No(Refusal::Absent),
+        Stop::Leaf(i, x) => {
+            let j = x.value;
+            live_target(i, x, live_value(img, n, i, j))
+        }
+        Stop::Parted(_, _, _) => Target::No(Refusal::Absent),
+        Stop::Empty => Target::No(Refusal::Absent),
         Stop::Damaged => Target::No(Refusal::Damaged),
     }
 }
 
-// The tested value record of a key, or the first refusal in document 01's order.
+// A key's leaf and its value, or the first refusal in the order of rule R7.
 fn target(img: &[u8], m: u32, n: u32, key: Key) -> Target
     ensures { λ r. ⌜ r ≡ targetOf m n (imageOf (now (img .entry))) key ⌝ }
 {
@@ -72,8 +75,9 @@ pub fn set(img: &mut [u8], m: u32, n: u32, key: Key, v: Value) -> Done
 {
     let found = target(img, m, n, key);
     match found {
-        Target::At(_, j, _) => {
-            set_value(img, m, n, j, v);
+        Target::At(i, x, _) => {
+            let j = x.value;
+            set_value(img, m, n, j, live_record(i, v));
             Done::Yes
         }
         Target::No(r) => Done::Refused(r),
@@ -85,7 +89,8 @@ fn stop_done(stop: Stop) -> Done
 {
     match stop {
         Stop::Leaf(_, _) => Done::Yes,
-        Stop::Parted(_) => Done::Refused(Refusal::Absent),
+        Stop::Parted(_, _, _) => Done::Refused(Refusal::Absent),
+        Stop::Empty => Done::Refused(Refusal::Absent),
         Stop::Damaged => Done::Refused(Refusal::Damaged),
     }
 }
@@ -105,7 +110,8 @@ fn stop_place(stop: Stop) -> Place
 {
     match stop {
         Stop::Leaf(i, _) => Place::At(i),
-        Stop::Parted(_) => Place::Refused(Refusal::Absent),
+        Stop::Parted(_, _, _) => Place::Refused(Refusal::Absent),
+        Stop::Empty => Place::Refused(Refusal::Absent),
         Stop::Damaged => Place::Refused(Refusal::Damaged),
     }
 }

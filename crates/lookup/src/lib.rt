@@ -4,13 +4,13 @@ pub mod start; // start.rt: blank memory becomes an empty map
 pub mod get; // get.rt: by a key
 pub mod ends; // ends.rt: smallest and largest
 
+use records::Node;
 use records::NodeIndex;
 use records::Refusal;
 use records::Value;
-use records::ValueIndex;
 
-// The value record of a leaf, tested and read, or the refusal.
+// A leaf and its value, whose record is tested; or the refusal.
 pub enum Target {
-    At(NodeIndex, ValueIndex, Value),
+    At(NodeIndex, Node, Value),
     No(Refusal),
 }

@@ -1,39 +1,28 @@
 // Start, and what the header alone tells.
 use inspection::Opened;
-use inspection::open::is_image;
+use inspection::open::blank_image;
 use inspection::open::open_image;
+use node_allocator::Arena;
+use node_allocator::initialize;
 use records::Count;
 use records::Done;
-use records::Refusal;
 ghost use mathlib.Core.Path.{_≡_};
-ghost use lib.ListN.{length};
 ghost use Rattle.words.specs.Words.{words};
 ghost use Rattle.records.specs.Layout.{imageOf};
 ghost use Rattle.records.specs.Numbers.{doneNumber};
 ghost use Rattle.inspection.specs.Outcome.{Leaves};
-ghost use Rattle.lookup.specs.Start.{started, startOf, startImage, lengthOf, capacityOf};
+ghost use Rattle.lookup.specs.Start.{started, startOf, startImage, lengthOf, capacityReply};
 
-fn store_counts(img: &mut [u8], n: u32)
-    ensures { λ _. ⌜ words (now (img .exit)) ≡ started n (words (now (img .entry))) ⌝ }
+// Both arenas become empty.
+fn start_arenas(img: &mut [u8], m: u32, n: u32)
+    ensures { λ _. ⌜ words (now (img .exit)) ≡ started m n (words (now (img .entry))) ⌝ }
 {
-    let at = 12 * (n as usize) + 8;
-    words::set_word(img, 6, 1);
-    words::set_word(img, 7, 1);
-    words::set_word(img, at + 2, 1);
-    words::set_word(img, at + 3, 1);
-}
-
-// Whether start may go on: refusal 1 or 5, or none.
-fn start_test(img: &[u8], m: u32, n: u32) -> Done
-    ensures { λ r. ⌜ r ≡ startOf m n (imageOf (now (img .entry))) ⌝ }
-{
-    if is_image(img, m, n) {
-        if words::zeros(img, 0, words::count(img)) {
-            return Done::Yes;
-        }
-        return Done::Refused(Refusal::NotBlank);
-    }
-    Done::Refused(Refusal::Shape)
+    initialize(img, Arena::Nodes { nodes: n });
+    let values = Arena::Values {
+        nodes: n,
+        values: m,
+    };
+    initialize(img, values);
 }
 
 // Makes an empty map of blank memory.
@@ -41,10 +30,10 @@ pub fn start(img: &mut [u8], m: u32, n: u32) -> Done
     ensures answer { λ r. ⌜ r ≡ startOf m n (imageOf (now (img .entry))) ⌝ }
     ensures image { λ _. ⌜ Leaves (now (img .entry)) (now (img .exit)) (doneNumber (startOf m n (imageOf (now (img .entry))))) (startImage m n (imageOf (now (img .entry)))) ⌝ }
 {
-    let answer = start_test(img, m, n);
+    let answer = blank_image(img, m, n);
     match answer {
         Done::Yes => {
-            store_counts(img, n);
+            start_arenas(img, m, n);
             Done::Yes
         }
         Done::Refused(r) => Done::Refused(r),
@@ -63,7 +52,7 @@ pub fn len(img: &[u8], m: u32, n: u32) -> Count
 
 // The most entries that the map can hold.
 pub fn capacity(img: &[u8], m: u32, n: u32) -> Count
-    ensures { λ r. ⌜ r ≡ capacityOf m n (imageOf (now (img .entry))) ⌝ }
+    ensures { λ r. ⌜ r ≡ capacityReply m n (imageOf (now (img .entry))) ⌝ }
 {
     match open_image(img, m, n) {
         Opened::Good(_) => Count::Is(m as u64),

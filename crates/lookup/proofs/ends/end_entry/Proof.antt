@@ -1,4 +1,4 @@
--- `ends::end_entry` meets its contract. Assumes nothing.
+-- `lookup::ends::end_entry` meets its contract. Assumes nothing.
 use mathlib.Core.Path.{sym, _∙_}
 use Rattle.inspection.specs.Room.{room, opened-words}
 use Rattle.lookup.specs.Ends.{endEntry, openedEntry, targetEntry}
@@ -21,9 +21,6 @@ stop-target-requires c κs = search needs
 enum-known-found : tie.Need-enum-known-found
 enum-known-found c = search needs
 
-key-of-requires : tie.Need-key-of-requires
-key-of-requires c κs = search needs
-
 enum-known-found-2 : tie.Need-enum-known-found-2
 enum-known-found-2 c = search needs
 
@@ -32,7 +29,7 @@ enum-known-r c = search needs
 
 returns : tie.Need-returns
 unfolding endEntry openedEntry targetEntry
-returns c = simp (← c .before .before .before .before .before .before .before .before .before .open-image .ensures, c .before .before .before .before .before .before .before .h .given .1) (simp (opened-words _ _ _ _ (sym (c .before .before .before .before .before .before .before .before .before .open-image .ensures) ∙ c .before .before .before .before .before .before .before .h .given .1), ← c .before .before .before .before .before .find-end .ensures, ← c .before .before .before .before .stop-target .ensures, c .before .before .found .given .1, c .key-of .ensures))
+returns c = simp (← c .before .before .before .before .before .before .before .before .before .open-image .ensures, c .before .before .before .before .before .before .before .h .given .1) (simp (opened-words _ _ _ _ (sym (c .before .before .before .before .before .before .before .before .before .open-image .ensures) ∙ c .before .before .before .before .before .before .before .h .given .1), ← c .before .before .before .before .before .find-end .ensures, ← c .before .before .before .before .stop-target .ensures, c .before .before .found .given .1))
 
 returns-2 : tie.Need-returns-2
 unfolding endEntry openedEntry targetEntry
@@ -51,7 +48,6 @@ end-entry-spec =
     find-end-requires
     stop-target-requires
     enum-known-found
-    key-of-requires
     enum-known-found-2
     enum-known-r
     returns

@@ -1,4 +1,4 @@
--- `get::stop_done` meets its contract. Assumes nothing.
+-- `lookup::get::stop_done` meets its contract. Assumes nothing.
 use Rattle.lookup.specs.Get.{stopDone}
 use borrow.Author.Needs.{needs}
 use Rattle.lookup.proofs.get.stop_done.Statement.{statement}
@@ -13,6 +13,9 @@ enum-told-2 c = search needs
 enum-told-3 : tie.Need-enum-told-3
 enum-told-3 c = search needs
 
+enum-told-4 : tie.Need-enum-told-4
+enum-told-4 c = search needs
+
 returns : tie.Need-returns
 unfolding stopDone
 returns c = simp (c .enum-told .given .1)
@@ -25,5 +28,11 @@ returns-3 : tie.Need-returns-3
 unfolding stopDone
 returns-3 c = simp (c .enum-told3 .given .1)
 
+returns-4 : tie.Need-returns-4
+unfolding stopDone
+returns-4 c = simp (c .enum-told4 .given .1)
+
 pub stop-done-spec : {M : Type 1} → statement M
-stop-done-spec = tie.close (tie.spec enum-told enum-told-2 enum-told-3 returns returns-2 returns-3)
+stop-done-spec =
+    tie.close
+    (tie.spec enum-told enum-told-2 enum-told-3 enum-told-4 returns returns-2 returns-3 returns-4)

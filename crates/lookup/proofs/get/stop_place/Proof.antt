@@ -1,4 +1,4 @@
--- `get::stop_place` meets its contract. Assumes nothing.
+-- `lookup::get::stop_place` meets its contract. Assumes nothing.
 use Rattle.lookup.specs.Get.{stopPlace}
 use borrow.Author.Needs.{needs}
 use Rattle.lookup.proofs.get.stop_place.Statement.{statement}
@@ -13,6 +13,9 @@ enum-told c = search needs
 enum-told-2 : tie.Need-enum-told-2
 enum-told-2 c = search needs
 
+enum-told-3 : tie.Need-enum-told-3
+enum-told-3 c = search needs
+
 returns : tie.Need-returns
 unfolding stopPlace
 returns c = simp (c .before .stop .given .1)
@@ -25,6 +28,19 @@ returns-3 : tie.Need-returns-3
 unfolding stopPlace
 returns-3 c = simp (c .enum-told2 .given .1)
 
+returns-4 : tie.Need-returns-4
+unfolding stopPlace
+returns-4 c = simp (c .enum-told3 .given .1)
+
 pub stop-place-spec : {M : Type 1} → statement M
 stop-place-spec =
-    tie.close (tie.spec enum-known-stop enum-told enum-told-2 returns returns-2 returns-3)
+    tie.close
+    (tie.spec
+    enum-known-stop
+    enum-told
+    enum-told-2
+    enum-told-3
+    returns
+    returns-2
+    returns-3
+    returns-4)

@@ -1,4 +1,4 @@
--- `start::start` meets its contract: a refusal passes by every store. Assumes nothing.
+-- `lookup::start::start` meets its contract. Assumes nothing.
 use mathlib.Core.Path.{sym, _∙_}
 use Rattle.records.specs.Numbers.{doneNumber}
 use Rattle.inspection.specs.Room.{shaped-whole, image-words}
@@ -8,14 +8,14 @@ use borrow.Author.Needs.{needs}
 use Rattle.lookup.proofs.start.start.Statement.{statement}
 use Rattle.lookup.proofs.start.start.Tie as tie
 
-start-test-requires : tie.Need-start-test-requires
-start-test-requires c κs = search needs
+blank-image-requires : tie.Need-blank-image-requires
+blank-image-requires c κs = search needs
 
 enum-told : tie.Need-enum-told
 enum-told c = search needs
 
-store-counts-requires : tie.Need-store-counts-requires
-store-counts-requires c κs = search needs
+start-arenas-requires : tie.Need-start-arenas-requires
+start-arenas-requires c κs = search needs
 
 enum-known-answer : tie.Need-enum-known-answer
 enum-known-answer c = search needs
@@ -25,28 +25,22 @@ same-length c = search needs
 
 returns : tie.Need-returns
 unfolding startImage doneImage doneNumber
-returns c =
-    let s = started-shaped (c .before .before .before .before .before .before .before .before .before .args .m) (c .before .before .before .before .before .before .before .before .before .args .n) _ (sym (c .before .before .before .before .before .before .start-test .ensures) ∙ c .before .before .before .before .enum-told .given .1) in (
-      simp (← c .before .before .before .before .before .before .start-test .ensures, c .before .before .before .before .enum-told .given .1),
-      wrote (shaped-whole (c .before .before .before .before .before .before .before .before .before .args .m) (c .before .before .before .before .before .before .before .before .before .args .n) (c .before .before .before .before .before .before .before .before .before .args .img .now) s) (search needs) (simp (← c .before .before .before .before .before .before .start-test .ensures, c .before .before .before .before .enum-told .given .1))
-          (simp (← c .before .before .before .before .before .before .start-test .ensures, c .before .before .before .before .enum-told .given .1) (simp (image-words (c .before .before .before .before .before .before .before .before .before .args .m) (c .before .before .before .before .before .before .before .before .before .args .n) (c .before .before .before .before .before .before .before .before .before .args .img .now) s, c .before .before .store-counts .ensures))),
-    )
+returns c = (simp (← c .before .before .before .before .before .before .blank-image .ensures, c .before .before .before .before .enum-told .given .1), wrote (shaped-whole (c .before .before .before .before .before .before .before .before .before .args .m) (c .before .before .before .before .before .before .before .before .before .args .n) (c .before .before .before .before .before .before .before .before .before .args .img .now) (started-shaped (c .before .before .before .before .before .before .before .before .before .args .m) (c .before .before .before .before .before .before .before .before .before .args .n) _ (sym (c .before .before .before .before .before .before .blank-image .ensures) ∙ c .before .before .before .before .enum-told .given .1))) (search needs) (simp (← c .before .before .before .before .before .before .blank-image .ensures, c .before .before .before .before .enum-told .given .1)) (simp (← c .before .before .before .before .before .before .blank-image .ensures, c .before .before .before .before .enum-told .given .1) (simp (image-words (c .before .before .before .before .before .before .before .before .before .args .m) (c .before .before .before .before .before .before .before .before .before .args .n) (c .before .before .before .before .before .before .before .before .before .args .img .now) (started-shaped (c .before .before .before .before .before .before .before .before .before .args .m) (c .before .before .before .before .before .before .before .before .before .args .n) _ (sym (c .before .before .before .before .before .before .blank-image .ensures) ∙ c .before .before .before .before .enum-told .given .1)), c .before .before .start-arenas .ensures))))
 
 same-length-2 : tie.Need-same-length-2
 same-length-2 c = search needs
 
 returns-2 : tie.Need-returns-2
 unfolding startImage doneImage
-returns-2 c =
-    (simp (← c .before .before .before .start-test .ensures, c .before .answer .given .1), left-alone (simp (← c .before .before .before .start-test .ensures, c .before .answer .given .1)))
+returns-2 c = (simp (← c .before .before .before .blank-image .ensures, c .before .answer .given .1), left-alone (simp (← c .before .before .before .blank-image .ensures, c .before .answer .given .1)))
 
 pub start-spec : {M : Type 1} → statement M
 start-spec =
     tie.close
     (tie.spec
-    start-test-requires
+    blank-image-requires
     enum-told
-    store-counts-requires
+    start-arenas-requires
     enum-known-answer
     same-length
     returns
