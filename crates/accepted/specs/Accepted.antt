@@ -1,18 +1,17 @@
--- An accepted image: document 01, "The full check accepts exactly if the header and all records pass: ..", clause by clause.
+-- An accepted image: rule T15 and those that it names, clause by clause.
 use mathlib.Core.Path.{_≡_}
 use mathlib.Core.List.{List}
-use mathlib.Core.Option.{Option, none, some}
+use mathlib.Core.Option.{none, some}
 use Prim.Native.Nat.{ℕ, _+_, _-_, _*_, _^_, _≤_, _<_}
 use lib.ListN.{length, getD}
 use Rattle.words.specs.Zeros.{Zeros}
-use Rattle.keys.specs.declared.Key.{Key}
 use Rattle.node_allocator.specs.Layout.{nodeAt, valueAt}
 use Rattle.records.specs.declared.Header.{Header}
 use Rattle.records.specs.declared.Value.{Value}
-use Rattle.records.specs.Records.{headerOf, nodeOf, valueRecordOf}
+use Rattle.records.specs.Records.{headerOf, frontOf, spareOf, paddingOf, valueRecordOf}
 use Rattle.inspection.specs.Room.{Shaped}
 use Rattle.lists.specs.Lists.{All}
-use Rattle.trees.specs.Tree.{Tree, leaf, inner, top, entries}
+use Rattle.trees.specs.Tree.{Tree, leaf, inner, top}
 use Rattle.trees.specs.Map.{Map, listOf, OrderedMap}
 use Rattle.trees.specs.Values.{Numbered}
 use Rattle.accepted.specs.Rules.{HeaderRules, Holds, Live, NodeChain, ValueChain}
@@ -35,6 +34,10 @@ pub record Accepted (m n : ℕ) (ws : List ℕ) : Type 0 where
   -- the image's words are 32-bit words, as many as M and N within their limits ask for
   pub shape : Shaped m n (length ws)
   pub words : (k : ℕ) → getD ws k 0 < 2 ^ 32
+  -- padding is zero: words 0, 1 and 3, and the last two of each node's words
+  pub front : frontOf ws ≡ 0
+  pub spare : spareOf ws ≡ 0
+  pub padding : (i : ℕ) → 1 ≤ i → i ≤ n → paddingOf ws i ≡ 0
   -- the header passes
   pub header : HeaderRules m n (headerOf n ws)
   -- the tree reaches as many nodes as node size says, each passing as a visited node

@@ -1,19 +1,19 @@
 -- The three places of a record exclude each other: a chain has no record twice, a node of the tree is not free, and a live value record is not free.
 use mathlib.Core.Path.{_≡_, refl, sym, ap, subst, _∙_}
 use mathlib.Core.List.{List, [], _∷_}
-use mathlib.Core.Logic.{_≢_, _⊎_, inl, inr}
-use Prim.Native.Nat.{ℕ, suc, _+_, _-_, _*_, _≤_, _<_}
+use mathlib.Core.Logic.{_≢_, inl, inr}
+use Prim.Native.Nat.{ℕ, _+_, _-_, _≤_}
 use native.Mathlib.Omega.{arith}
-use native.Mathlib.Decide.{ℕ-discrete}
 use lib.ListN.{length}
 use Rattle.records.specs.declared.Header.{Header}
 use Rattle.records.specs.declared.Node.{Node}
 use Rattle.records.specs.declared.ValueRecord.{ValueRecord}
-use Rattle.records.specs.Records.{nodeOf, valueRecordOf}
-use Rattle.lists.specs.Lists.{All, all-map}
-use Rattle.trees.specs.Tree.{Tree, leaf, inner, top}
+use Rattle.records.specs.Records.{nodeOf}
+use Rattle.lists.specs.Lists.{All}
+use Rattle.trees.specs.Tree.{Tree, leaf, inner}
 use Rattle.trees.specs.Nodes.{In}
 use Rattle.accepted.specs.Rules.{Holds, Live, FreeNode, FreeValue, Chain}
+use Rattle.accepted.specs.Held.{top-used}
 
 -- ---- a chain has no record twice
 
@@ -51,11 +51,7 @@ pub node-not-free : (h : Header) (ws : List ℕ) (parent low : ℕ) (t : Tree) (
 unfolding Holds
 node-not-free h ws parent low (leaf i key v) x k q f = omega (arith, f .link .some, ap (λ (y : ℕ). nodeOf ws y .left .0) q, ap (λ (y : Node). y .left .0) (k .here))
 node-not-free h ws parent low (inner i key p l r) x k (inl q) f =
-    omega (arith, f .no-right, ap (λ (y : ℕ). nodeOf ws y .right .0) q, ap (λ (y : Node). y .right .0) (k .here), top-some r (k .on-right))
-  where
-    top-some : (t : Tree) → Holds h ws i (p + 1) t → 1 ≤ top t
-    top-some (leaf j a v) k = k .index-some
-    top-some (inner j a q x y) k = k .index-some
+    omega (arith, f .no-right, ap (λ (y : ℕ). nodeOf ws y .right .0) q, ap (λ (y : Node). y .right .0) (k .here), top-used h ws i (p + 1) r (k .on-right) .0)
 node-not-free h ws parent low (inner i key p l r) x k (inr (inl q)) f = node-not-free h ws i (p + 1) l x (k .on-left) q f
 node-not-free h ws parent low (inner i key p l r) x k (inr (inr q)) f = node-not-free h ws i (p + 1) r x (k .on-right) q f
 

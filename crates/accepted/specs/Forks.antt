@@ -8,22 +8,22 @@ use native.Mathlib.Omega.{arith}
 use Rattle.keys.specs.declared.Key.{Key}
 use Rattle.records.specs.declared.Header.{Header}
 use Rattle.records.specs.declared.Node.{Node}
-use Rattle.records.specs.Records.{nodeOf}
+use Rattle.records.specs.Records.{nodeOf, innerNode}
 use Rattle.trees.specs.Tree.{Tree, inner, fork, top}
 use Rattle.trees.specs.Nodes.{In}
-use Rattle.accepted.specs.Rules.{Holds, innerNode}
+use Rattle.accepted.specs.Rules.{Holds}
 use Rattle.accepted.specs.Held.{once}
 use Rattle.accepted.specs.Frame.{holds-kept}
 
 -- its record
-abbrev pub forkNode : ℕ → Key → ℕ → Bool → ℕ → ℕ → Node
-forkNode parent key p side near far = innerNode parent key p (cond side far near) (cond side near far)
+abbrev pub sidedNode : ℕ → Key → ℕ → Bool → ℕ → ℕ → Node
+sidedNode parent key p side near far = innerNode parent key p (cond side far near) (cond side near far)
 
 -- what an image that holds it holds
 pub record Fork (h : Header) (ws : List ℕ) (parent low i : ℕ) (key : Key) (p : ℕ) (side : Bool) (near far : Tree) : Type 0 where
   pub index-some : 1 ≤ i
   pub index-used : i < h .nodes .bump
-  pub here : nodeOf ws i ≡ forkNode parent key p side (top near) (top far)
+  pub here : nodeOf ws i ≡ sidedNode parent key p side (top near) (top far)
   pub rises : low ≤ p
   pub short : p < 128
   pub two : top near ≢ top far
@@ -74,7 +74,7 @@ fork-rebuilt h g ws vs b c parent low i key p side near near′ far k e here kep
     held-fork g vs parent low i key p side near′ far (record {
       index-some = f .index-some;
       index-used = omega (arith, f .index-used);
-      here = here ∙ f .here ∙ ap (λ (y : ℕ). forkNode parent key p side y (top far)) (sym e);
+      here = here ∙ f .here ∙ ap (λ (y : ℕ). sidedNode parent key p side y (top far)) (sym e);
       rises = f .rises;
       short = f .short;
       two = λ z. f .two (sym e ∙ z);

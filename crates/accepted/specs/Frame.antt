@@ -1,20 +1,22 @@
--- What the rules of an image depend on: its header, its nodes, its value records and its unused words. An image in which these stay as they were keeps every rule.
-use mathlib.Core.Path.{_≡_, refl, sym, ap, subst, _∙_}
+-- What the rules of an image depend on: its header, its nodes, its value records and its unused words. What a row of stores leaves of these keeps its rules.
+use mathlib.Core.Path.{_≡_, refl, ap, subst, _∙_}
 use mathlib.Core.List.{List, [], _∷_}
-use mathlib.Core.Logic.{_≢_, _⊎_, inl, inr}
-use mathlib.Core.Option.{Option, none, some}
+use mathlib.Core.Logic.{_≢_, inl, inr}
+use mathlib.Core.Option.{some}
 use Prim.Native.Nat.{ℕ, _+_, _-_, _*_, _≤_, _<_}
 use native.Mathlib.Omega.{arith}
-use Rattle.node_allocator.specs.declared.Field.the-variants as field
+use Rattle.words.specs.Zeros.{Zeros}
+use Rattle.node_allocator.specs.Layout.{nodeAt, valueAt}
 use Rattle.records.specs.declared.Header.{Header}
 use Rattle.records.specs.declared.Node.{Node}
 use Rattle.records.specs.declared.ValueRecord.{ValueRecord}
-use Rattle.records.specs.Records.{nodeOf, valueRecordOf}
+use Rattle.records.specs.Records.{headerOf, nodeOf, withParent}
 use Rattle.lists.specs.Lists.{All}
 use Rattle.trees.specs.Tree.{Tree, leaf, inner, top}
 use Rattle.trees.specs.Nodes.{In}
-use Rattle.record_views.specs.Nodes.{withField}
+use Rattle.record_views.specs.Stored.{Bounds, nodes, values, Stored}
 use Rattle.accepted.specs.Rules.{Holds, Chain}
+use Rattle.accepted.specs.Accepted.{Accepted}
 use Rattle.accepted.specs.Held.{once}
 
 -- a tree is held where its nodes' records stay, and the bumps do not fall
@@ -37,14 +39,14 @@ holds-kept h g ws vs p q parent low (inner i key c l r) e k =
 
 -- and where its top has another Parent, and no other node changes
 pub holds-moved : (h g : Header) (ws vs : List ℕ) → h .nodes .bump ≤ g .nodes .bump → h .values .bump ≤ g .values .bump → (parent parent′ low : ℕ) (t : Tree)
-    → nodeOf vs (top t) ≡ withField field.Parent parent′ (nodeOf ws (top t)) → ((y : ℕ) → In y t → y ≢ top t → nodeOf vs y ≡ nodeOf ws y)
+    → nodeOf vs (top t) ≡ withParent parent′ (nodeOf ws (top t)) → ((y : ℕ) → In y t → y ≢ top t → nodeOf vs y ≡ nodeOf ws y)
     → Holds h ws parent low t → Holds g vs parent′ low t
 unfolding Holds
 holds-moved h g ws vs b c parent parent′ low (leaf i key v) e kept k =
     record {
       index-some = k .index-some;
       index-used = omega (arith, k .index-used);
-      here = e ∙ ap (withField field.Parent parent′) (k .here);
+      here = e ∙ ap (withParent parent′) (k .here);
       rises = k .rises;
       value-some = k .value-some;
       value-used = omega (arith, k .value-used);
@@ -54,7 +56,7 @@ holds-moved h g ws vs b c parent parent′ low (inner i key p l r) e kept k =
     record {
       index-some = k .index-some;
       index-used = omega (arith, k .index-used);
-      here = e ∙ ap (withField field.Parent parent′) (k .here);
+      here = e ∙ ap (withParent parent′) (k .here);
       rises = k .rises;
       short = k .short;
       two = k .two;
@@ -75,3 +77,26 @@ pub chain-range : (Free : ℕ → Type 0) (next : ℕ → ℕ) (bump i : ℕ) (x
 unfolding Chain
 chain-range Free next bump i [] c = tt
 chain-range Free next bump i (x ∷ xs) c = ((c .some, c .used, c .free), chain-range Free next bump (next x) xs (c .rest))
+
+-- ---- a row of stores
+
+-- the bounds of stores to records below the bumps
+pub accepted-bounds : {m n : ℕ} {ws : List ℕ} → Accepted m n ws → Bounds m n (headerOf n ws .nodes .bump) (headerOf n ws .values .bump)
+accepted-bounds a =
+    record {
+      few = a .shape .most-nodes;
+      some = a .header .nodes .bump-some;
+      most = a .header .nodes .bump-most;
+      few-values = a .shape .most;
+      some-values = a .header .values .bump-some;
+      most-values = a .header .values .bump-most;
+    }
+
+-- the unused words stay, from the bounds on
+module _ {m n b c : ℕ} {ws vs : List ℕ} {f : ℕ → Node → Node} {g : ℕ → ValueRecord → ValueRecord} {t : Header → Header} (s : Stored m n b c ws vs f g t) where
+  pub nodes-unused-after : {bump : ℕ} → bump ≤ b → Zeros ws (nodeAt bump) (12 * (n + 1 - bump)) → Zeros vs (nodeAt b) (12 * (n + 1 - b))
+  nodes-unused-after {bump} l z k low high =
+      s .kept .word k (nodes low (omega (arith, s .bounds .some, s .bounds .most))) ∙ z k (omega arith) (omega (arith, s .bounds .most))
+
+  pub values-unused-after : {bump : ℕ} → bump ≤ c → Zeros ws (valueAt n bump) (8 * (m + 1 - bump)) → Zeros vs (valueAt n c) (8 * (m + 1 - c))
+  values-unused-after {bump} l z k low high = s .kept .word k (values low) ∙ z k (omega arith) (omega (arith, s .bounds .most-values))

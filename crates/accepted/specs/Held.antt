@@ -1,32 +1,28 @@
 -- A tree that an image holds: every node of it passes its test, no node stands at two places, the words determine it, and its entries name used value records.
 use mathlib.Core.Path.{_≡_, refl, sym, ap, subst, subst₂, _∙_}
 use mathlib.Core.List.{List}
-use mathlib.Core.Logic.{_≢_, _⊎_, inl, inr, ⊎-elim}
-use mathlib.Core.Option.{Option, none, some}
-use mathlib.Core.Bool.{Bool, true, false, cond, _&&_, _||_, not, Bool·beq}
-use Prim.Native.Nat.{ℕ, suc, _+_, _-_, _*_, _≤_, _<_}
+use mathlib.Core.Logic.{_⊎_, inl, inr, ⊎-elim}
+use mathlib.Core.Option.{none, some}
+use mathlib.Core.Bool.{true, not, Bool·beq}
+use Prim.Native.Nat.{ℕ, _+_, _-_, _≤_, _<_}
 use native.Mathlib.Omega.{arith}
-use native.Mathlib.Decide.{ℕ-discrete}
-use lib.Dec.{eqb, leb, ltb}
+use lib.Dec.{eqb, leb}
 use borrow.Author.Tests.{le-leb, lt-ltb, eq-eqb, ne-eqb}
-use Rattle.keys.specs.declared.Key.{Key}
 use Rattle.records.specs.declared.Header.{Header}
 use Rattle.records.specs.declared.Node.{Node}
-use Rattle.records.specs.Records.{nodeOf}
-use Rattle.inspection.specs.Tests.{usedNode, leafForm, innerForm, formOk, nodeOk, kidsOk}
+use Rattle.records.specs.Records.{headerOf, nodeOf, paddingOf, leafNode, innerNode}
+use Rattle.inspection.specs.declared.Opened.the-variants.{Good}
+use Rattle.inspection.specs.Tests.{formOk, nodeOk, rootOk, kidsOk}
+use Rattle.inspection.specs.Opening.{openOf}
 use Rattle.lists.specs.Lists.{All, all-append}
 use Rattle.trees.specs.Tree.{Tree, leaf, inner, top, entries}
 use Rattle.trees.specs.Map.{Map, listOf}
 use Rattle.trees.specs.Nodes.{In, in-top}
-use Rattle.accepted.specs.Rules.{HeaderRules, Holds, leafNode, innerNode}
-use Rattle.accepted.specs.Accepted.{nodesIn, HoldsMap}
+use Rattle.accepted.specs.Rules.{HeaderRules, Holds}
+use Rattle.accepted.specs.Accepted.{nodesIn, HoldsMap, Accepted}
+use Rattle.accepted.specs.Tests.{padding-passes, opened}
 
 -- ---- each node passes its test
-
--- the root's rule: a leaf exactly if n is 1
-abbrev pub RootRule : Header → Tree → Type 0
-RootRule h (leaf i key v) = h .values .size ≡ 1
-RootRule h (inner i key p l r) = h .values .size ≢ 1
 
 -- a tree has a node
 pub some-nodes : (t : Tree) → 1 ≤ nodesIn t
@@ -34,74 +30,74 @@ unfolding nodesIn
 some-nodes (leaf i key v) = omega arith
 some-nodes (inner i key p l r) = omega arith
 
-pub root-rule : (m n : ℕ) (h : Header) (t : Tree) → HeaderRules m n h → nodesIn t ≡ h .nodes .size → RootRule h t
-unfolding nodesIn
-root-rule m n h (leaf i key v) r e = omega (arith, r .node-size)
-root-rule m n h (inner i key p l r) rules e = λ z. omega (arith, rules .node-size, some-nodes l, some-nodes r)
+-- the top of a tree is a node
+pub top-used : (h : Header) (ws : List ℕ) (parent low : ℕ) (t : Tree) → Holds h ws parent low t → (1 ≤ top t) × (top t < h .nodes .bump)
+unfolding Holds
+top-used h ws parent low (leaf i key v) k = (k .index-some, k .index-used)
+top-used h ws parent low (inner i key p l r) k = (k .index-some, k .index-used)
+
+-- the padding of every node below the bump is zero
+abbrev pub Clean : Header → List ℕ → Type 0
+Clean h ws = (i : ℕ) → 1 ≤ i → i < h .nodes .bump → paddingOf ws i ≡ 0
+
+pub accepted-clean : {m n : ℕ} {ws : List ℕ} → Accepted m n ws → Clean (headerOf n ws) ws
+accepted-clean a i low high = a .padding i low (omega (arith, a .header .nodes .bump-most))
+
+pub accepted-opens : {m n : ℕ} {ws : List ℕ} → Accepted m n ws → openOf m n ws ≡ Good (headerOf n ws)
+accepted-opens {m} {n} {ws} a = opened m n ws (a .shape) (a .front) (a .spare) (a .header)
+
+-- the root's rule: a leaf exactly if n is 1
+pub root-passes : (m n : ℕ) (h : Header) (ws : List ℕ) (t : Tree) → HeaderRules m n h → top t ≡ h .root .0 → nodesIn t ≡ h .nodes .size → Holds h ws 0 0 t
+    → rootOk h ws ≡ true
+unfolding rootOk nodesIn Holds
+root-passes m n h ws t rules at-root counted k =
+    rw (← at-root, le-leb 1 (top t) (top-used h ws 0 0 t k .0), lt-ltb (top t) (h .nodes .bump) (top-used h ws 0 0 t k .1)) (go t counted k)
+  where
+    go : (t : Tree) → nodesIn t ≡ h .nodes .size → Holds h ws 0 0 t → Bool·beq (not (eqb (nodeOf ws (top t) .value .0) 0)) (eqb (h .values .size) 1) ≡ true
+    go (leaf i key v) e k =
+        rw (k .here, ne-eqb v 0 (λ z. omega (arith, k .value-some)), eq-eqb (h .values .size) 1 (omega (arith, rules .node-size)))
+    go (inner i key p l r) e k =
+        rw (k .here, ne-eqb (h .values .size) 1 (λ z. omega (arith, rules .node-size, some-nodes l, some-nodes r)))
 
 module _ (h : Header) (ws : List ℕ) where
-  pub form-passes : (parent low : ℕ) (t : Tree) → Holds h ws parent low t → formOk h (top t) (nodeOf ws (top t)) ≡ true
+  pub form-passes : Clean h ws → (parent low : ℕ) (t : Tree) → Holds h ws parent low t → formOk h ws (top t) ≡ true
   unfolding formOk Holds
-  form-passes parent low (leaf i key v) k =
+  form-passes clean parent low (leaf i key v) k =
       rw (
         le-leb 1 i (k .index-some),
         lt-ltb i (h .nodes .bump) (k .index-used),
+        padding-passes ws i (clean i (k .index-some) (k .index-used)),
         k .here,
         le-leb 1 v (k .value-some),
         lt-ltb v (h .values .bump) (k .value-used),
       )
-  form-passes parent low (inner i key p l r) k =
-      let left : top l ≢ 0 = top-some l (k .on-left) in
-      let right : top r ≢ 0 = top-some r (k .on-right) in
+  form-passes clean parent low (inner i key p l r) k =
       rw (
         le-leb 1 i (k .index-some),
         lt-ltb i (h .nodes .bump) (k .index-used),
+        padding-passes ws i (clean i (k .index-some) (k .index-used)),
         k .here,
-        ne-eqb (top l) 0 left,
-        ne-eqb (top r) 0 right,
+        ne-eqb (top l) 0 (λ e. omega (arith, top-used h ws i (p + 1) l (k .on-left) .0)),
+        ne-eqb (top r) 0 (λ e. omega (arith, top-used h ws i (p + 1) r (k .on-right) .0)),
         ne-eqb (top l) (top r) (k .two),
         lt-ltb p 128 (k .short),
       )
-    where
-      top-some : (t : Tree) → Holds h ws i (p + 1) t → top t ≢ 0
-      top-some (leaf j a v) k e = omega (arith, k .index-some)
-      top-some (inner j a q x y) k e = omega (arith, k .index-some)
-
-  rule-holds : (parent : ℕ) (t : Tree) (low : ℕ) → Holds h ws parent low t → (parent ≡ 0 → RootRule h t)
-      → not (eqb parent 0) || Bool·beq (not (eqb (nodeOf ws (top t) .value .0) 0)) (eqb (h .values .size) 1) ≡ true
-  unfolding Holds
-  rule-holds parent (leaf i key v) low k rule = go (ℕ-discrete parent 0)
-    where
-      go : Dec (parent ≡ 0) → not (eqb parent 0) || Bool·beq (not (eqb (nodeOf ws i .value .0) 0)) (eqb (h .values .size) 1) ≡ true
-      go (no d) = rw (ne-eqb parent 0 d)
-      go (yes e) = rw (eq-eqb parent 0 e, k .here, ne-eqb v 0 (λ z. omega (arith, k .value-some)), eq-eqb (h .values .size) 1 (rule e))
-  rule-holds parent (inner i key p l r) low k rule = go (ℕ-discrete parent 0)
-    where
-      go : Dec (parent ≡ 0) → not (eqb parent 0) || Bool·beq (not (eqb (nodeOf ws i .value .0) 0)) (eqb (h .values .size) 1) ≡ true
-      go (no d) = rw (ne-eqb parent 0 d)
-      go (yes e) = rw (eq-eqb parent 0 e, k .here, ne-eqb (h .values .size) 1 (rule e))
 
   links-pass : (parent low : ℕ) (t : Tree) → Holds h ws parent low t → (eqb (nodeOf ws (top t) .parent .0) parent ≡ true) × (leb low (nodeOf ws (top t) .prefix) ≡ true)
   unfolding Holds
   links-pass parent low (leaf i key v) k = (rw (k .here) (eq-eqb parent parent refl), rw (k .here) (le-leb low 128 (k .rises)))
   links-pass parent low (inner i key p l r) k = (rw (k .here) (eq-eqb parent parent refl), rw (k .here) (le-leb low p (k .rises)))
 
-  pub node-passes : (parent low : ℕ) (t : Tree) → Holds h ws parent low t → (parent ≡ 0 → RootRule h t) → nodeOk h (top t) parent low (nodeOf ws (top t)) ≡ true
+  pub node-passes : Clean h ws → (parent low : ℕ) (t : Tree) → Holds h ws parent low t → nodeOk h ws (top t) parent low ≡ true
   unfolding nodeOk
-  node-passes parent low t k rule =
-      rw (form-passes parent low t k, links-pass parent low t k .0, links-pass parent low t k .1) (rule-holds parent t low k rule)
+  node-passes clean parent low t k = rw (form-passes clean parent low t k, links-pass parent low t k .0, links-pass parent low t k .1)
 
   -- the children of a node are visited nodes
-  pub kids-pass : (parent low : ℕ) (t : Tree) → Holds h ws parent low t → kidsOk h ws (top t) (nodeOf ws (top t)) ≡ true
+  pub kids-pass : Clean h ws → (parent low : ℕ) (t : Tree) → Holds h ws parent low t → kidsOk h ws (top t) (nodeOf ws (top t)) ≡ true
   unfolding kidsOk Holds
-  kids-pass parent low (leaf i key v) k = rw (k .here, ne-eqb v 0 (λ z. omega (arith, k .value-some)))
-  kids-pass parent low (inner i key p l r) k =
-      rw (
-        k .here,
-        lt-ltb p 128 (k .short),
-        node-passes i (p + 1) l (k .on-left) (λ z. absurd (omega (arith, k .index-some))),
-        node-passes i (p + 1) r (k .on-right) (λ z. absurd (omega (arith, k .index-some))),
-      )
+  kids-pass clean parent low (leaf i key v) k = rw (k .here, ne-eqb v 0 (λ z. omega (arith, k .value-some)))
+  kids-pass clean parent low (inner i key p l r) k =
+      rw (k .here, lt-ltb p 128 (k .short), node-passes clean i (p + 1) l (k .on-left), node-passes clean i (p + 1) r (k .on-right))
 
   -- ---- no node stands at two places
 

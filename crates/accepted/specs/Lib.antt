@@ -1,4 +1,4 @@
--- Document 01's rules of an image, written as rules, and what follows from them alone.
+-- The rules of an image, written as rules (T1 to T15), and what follows from them alone.
 pub mod Rules
 pub mod Accepted
 pub mod Tests

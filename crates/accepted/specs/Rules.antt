@@ -1,17 +1,16 @@
--- Document 01, "Tests of a record", as rules: what is so of a header, a node, a value record and a free record that pass. Nothing here is a test, a step or a call.
-use mathlib.Core.Path.{_≡_}
+-- Rules T1 to T14 as rules: what is so of a header, a node, a value record and a free record that pass. Nothing here is a test, a step or a call. That padding
+-- is zero (T1, T6, T11) is said of the whole image, in Accepted.
+use mathlib.Core.Path.{_≡_, refl}
 use mathlib.Core.List.{List, [], _∷_}
 use mathlib.Core.Logic.{_≢_, _↔_}
-use Prim.Native.Nat.{ℕ, _+_, _-_, _*_, _^_, _≤_, _<_}
-use lib.ListN.{length, getD}
-use Rattle.words.specs.Zeros.{Zeros}
-use Rattle.keys.specs.declared.Key.{Key}
+use Prim.Native.Nat.{ℕ, _+_, _-_, _*_, _≤_, _<_}
 use Rattle.node_allocator.specs.declared.Counts.{Counts}
-use Rattle.node_allocator.specs.Layout.{nodeAt, valueAt}
 use Rattle.records.specs.declared.Header.{Header}
 use Rattle.records.specs.declared.Node.{Node}
+use Rattle.records.specs.declared.Value.{Value}
 use Rattle.records.specs.declared.ValueRecord.{ValueRecord}
-use Rattle.records.specs.Records.{nodeOf, valueRecordOf}
+use Rattle.records.specs.Records.{nodeOf, leafNode, innerNode, valueRecordOf}
+use Rattle.records.specs.Writes.{liveRecord}
 use Rattle.trees.specs.Tree.{Tree, leaf, inner, top}
 
 -- ---- Header
@@ -25,10 +24,8 @@ pub record ArenaRules (c : Counts) (limit : ℕ) : Type 0 where
   pub size-most : c .size ≤ c .bump - 1
   pub chain-empty : (c .head ≡ c .bump) ↔ (c .size ≡ c .bump - 1)
 
--- padding zero; n at most M; node size is 2n-1, or 0 if n is 0; root is 1 if n > 0, else 0; if n is 0, the node head is 1
+-- n at most M; node size is 2n-1, or 0 if n is 0; root is 1 if n > 0, else 0; if n is 0, the node head is 1
 pub record HeaderRules (m n : ℕ) (h : Header) : Type 0 where
-  pub padding0 : h .padding0 ≡ 0
-  pub padding1 : h .padding1 ≡ 0
   pub size-most : h .values .size ≤ m
   pub node-size : h .nodes .size ≡ 2 * h .values .size - 1
   pub root-none : h .values .size ≡ 0 → h .root .0 ≡ 0
@@ -38,14 +35,6 @@ pub record HeaderRules (m n : ℕ) (h : Header) : Type 0 where
   pub values : ArenaRules (h .values) m
 
 -- ---- Visited node: a tree of nodes
-
-abbrev pub leafNode : ℕ → Key → ℕ → Node
-leafNode parent key v =
-    record { left = record { 0 = 0 }; right = record { 0 = 0 }; parent = record { 0 = parent }; value = record { 0 = v }; key = key; prefix = 128; padding = 0 }
-
-abbrev pub innerNode : ℕ → Key → ℕ → ℕ → ℕ → Node
-innerNode parent key prefix l r =
-    record { left = record { 0 = l }; right = record { 0 = r }; parent = record { 0 = parent }; value = record { 0 = 0 }; key = key; prefix = prefix; padding = 0 }
 
 -- The image holds the tree below the node `parent`: each node's index is in 1..bump-1, its record is a leaf's (Value in 1..value bump-1) or an inner node's (Left and Right its children's
 -- indexes, different), Parent names the node above, and prefix lengths rise; `low` is one more than the prefix length above.
@@ -72,6 +61,10 @@ pub record Live (r : ValueRecord) : Type 0 where
   pub zero2 : r .register2 ≡ 0
   pub zero3 : r .register3 ≡ 0
 
+pub live-record : (i : ℕ) (v : Value) → Live (liveRecord i v)
+unfolding liveRecord
+live-record i v = record { zero0 = refl; zero1 = refl; zero2 = refl; zero3 = refl }
+
 -- ---- Free records: each names the next one, and the last the bump
 
 -- Left in 1..bump and not itself
@@ -80,11 +73,10 @@ pub record Link (bump i next : ℕ) : Type 0 where
   pub most : next ≤ bump
   pub other : next ≢ i
 
--- Value, Right and padding 0, Left a link, Parent below bump (0 for node 1), prefix at most 128
+-- Value and Right 0, Left a link, Parent below bump (0 for node 1), prefix at most 128
 pub record FreeNode (h : Header) (i : ℕ) (x : Node) : Type 0 where
   pub no-value : x .value .0 ≡ 0
   pub no-right : x .right .0 ≡ 0
-  pub no-padding : x .padding ≡ 0
   pub link : Link (h .nodes .bump) i (x .left .0)
   pub parent-used : x .parent .0 < h .nodes .bump
   pub first-parent : i ≡ 1 → x .parent .0 ≡ 0

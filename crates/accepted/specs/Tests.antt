@@ -1,13 +1,13 @@
--- The tests are the rules: each of document 01's tests, as the calls make it, passes exactly where its rule holds.
-use mathlib.Core.Path.{_≡_, refl, sym, ap, _∙_}
-use mathlib.Core.List.{List, [], _∷_}
-use mathlib.Core.Logic.{_≢_, _↔_, _⊎_, inl, inr, ⊎-elim}
-use mathlib.Core.Bool.{Bool, true, false, cond, _&&_, _||_, not, Bool·beq, true≢false, false≢true}
-use Prim.Native.Nat.{ℕ, zero, suc, _+_, _-_, _*_, _≤_, _<_}
+-- The tests are the rules: each test, as the calls make it, passes exactly where its rule holds.
+use mathlib.Core.Path.{_≡_, refl, ap, _∙_}
+use mathlib.Core.List.{List}
+use mathlib.Core.Logic.{_≢_, _⊎_, ⊎-elim}
+use mathlib.Core.Bool.{Bool, true, false, cond, _&&_, _||_, not, Bool·beq, false≢true}
+use Prim.Native.Nat.{ℕ, _+_, _-_, _*_, _≤_}
 use native.Mathlib.Omega.{arith}
 use native.Mathlib.Decide.{ℕ-discrete}
 use lib.ListN.{length}
-use lib.Dec.{eqb, leb, ltb}
+use lib.Dec.{eqb}
 use borrow.Author.Tests.{leb-true, le-leb, ltb-true, lt-ltb, eqb-true, eqb-false, eq-eqb, ne-eqb}
 use Rattle.words.specs.Tests.{and-l, and-r, or-cases, not-true}
 use Rattle.node_allocator.specs.declared.Counts.{Counts}
@@ -15,12 +15,12 @@ use Rattle.node_allocator.specs.Steps.{linkOk}
 use Rattle.records.specs.declared.Header.{Header}
 use Rattle.records.specs.declared.Node.{Node}
 use Rattle.records.specs.declared.ValueRecord.{ValueRecord}
-use Rattle.inspection.specs.declared.Opened.the-variants.{Good, Shut}
+use Rattle.inspection.specs.declared.Opened.the-variants.{Good}
 use Rattle.records.specs.Layout.{imageLength, mostValues, mostNodes}
-use Rattle.records.specs.Records.{headerOf}
-use Rattle.inspection.specs.Tests.{shapeOk, arenaOk, countsOk, headerOk, liveValue, freeNode, freeValue}
-use Rattle.inspection.specs.Opening.{openOf}
-use Rattle.inspection.specs.Room.{Shaped, shaped}
+use Rattle.records.specs.Records.{headerOf, frontOf, spareOf, paddingOf, valueRecordOf}
+use Rattle.inspection.specs.Tests.{shapeOk, arenaOk, countsOk, headerOk, topOk, paddingOk, liveValue, freeNode, freeValue}
+use Rattle.inspection.specs.Opening.{openShaped, openOf}
+use Rattle.inspection.specs.Room.{Shaped}
 use Rattle.accepted.specs.Rules.{ArenaRules, HeaderRules, Live, Link, FreeNode, FreeValue}
 
 -- ---- two tests agree exactly if their facts do
@@ -81,8 +81,6 @@ header-rules m n h e =
     let root : h .root .0 ≡ cond (eqb (h .values .size) 0) 0 1 = eqb-true (h .root .0) (cond (eqb (h .values .size) 0) 0 1) (search (and-l, and-r) depth 8) in
     let empty : not (eqb (h .values .size) 0) || eqb (h .nodes .head) 1 ≡ true = search (and-l, and-r) depth 8 in
     record {
-      padding0 = eqb-true (h .padding0) 0 (search (and-l, and-r) depth 8);
-      padding1 = eqb-true (h .padding1) 0 (search (and-l, and-r) depth 8);
       size-most = let tested : h .values .size ≤ m = leb-true (h .values .size) m (search (and-l, and-r) depth 8) in omega arith;
       node-size = eqb-true (h .nodes .size) (2 * h .values .size - 1) (search (and-l, and-r) depth 8);
       root-none = λ z. root ∙ ap (λ (b : Bool). cond b 0 1) (eq-eqb (h .values .size) 0 z);
@@ -99,8 +97,6 @@ pub header-passes : (m n : ℕ) (h : Header) → HeaderRules m n h → headerOk 
 unfolding headerOk countsOk
 header-passes m n h r =
     rw (
-      eq-eqb (h .padding0) 0 (r .padding0),
-      eq-eqb (h .padding1) 0 (r .padding1),
       le-leb (h .values .size) m (r .size-most),
       eq-eqb (h .nodes .size) (2 * h .values .size - 1) (r .node-size),
     )
@@ -113,24 +109,41 @@ header-passes m n h r =
     go (no d) =
         rw (ne-eqb (h .values .size) 0 d, eq-eqb (h .root .0) 1 (r .root-one d), arena-passes (h .nodes) n (r .nodes), arena-passes (h .values) m (r .values))
 
--- an image whose shape and header keep the rules is opened
-pub opened : (m n : ℕ) (ws : List ℕ) → Shaped m n (length ws) → HeaderRules m n (headerOf n ws) → openOf m n ws ≡ Good (headerOf n ws)
-unfolding openOf
-opened m n ws s r = rw (shape-passes s, header-passes m n (headerOf n ws) r)
+-- an image whose shape, padding and header keep the rules is opened
+pub opened : (m n : ℕ) (ws : List ℕ) → Shaped m n (length ws) → frontOf ws ≡ 0 → spareOf ws ≡ 0 → HeaderRules m n (headerOf n ws)
+    → openOf m n ws ≡ Good (headerOf n ws)
+unfolding openOf openShaped topOk
+opened m n ws s front spare r =
+    rw (shape-passes s, eq-eqb (frontOf ws) 0 front, eq-eqb (spareOf ws) 0 spare, header-passes m n (headerOf n ws) r)
 
--- ---- value records, links and free records
+-- ---- padding, value records, links and free records
 
-pub live-rules : (r : ValueRecord) → liveValue r ≡ true → Live r
-live-rules r e =
-    record {
-      zero0 = eqb-true (r .register0) 0 (search (and-l, and-r) depth 8);
-      zero1 = eqb-true (r .register1) 0 (search (and-l, and-r) depth 8);
-      zero2 = eqb-true (r .register2) 0 (search (and-l, and-r) depth 8);
-      zero3 = eqb-true (r .register3) 0 (search (and-l, and-r) depth 8);
-    }
+pub padding-rule : (ws : List ℕ) (i : ℕ) → paddingOk ws i ≡ true → paddingOf ws i ≡ 0
+unfolding paddingOk
+padding-rule ws i e = eqb-true (paddingOf ws i) 0 e
 
-pub live-passes : (r : ValueRecord) → Live r → liveValue r ≡ true
-live-passes r l = rw (eq-eqb (r .register0) 0 (l .zero0), eq-eqb (r .register1) 0 (l .zero1), eq-eqb (r .register2) 0 (l .zero2), eq-eqb (r .register3) 0 (l .zero3))
+pub padding-passes : (ws : List ℕ) (i : ℕ) → paddingOf ws i ≡ 0 → paddingOk ws i ≡ true
+unfolding paddingOk
+padding-passes ws i e = eq-eqb (paddingOf ws i) 0 e
+
+module _ (n : ℕ) (ws : List ℕ) (leaf j : ℕ) where
+  abbrev r : ValueRecord
+  r = valueRecordOf n ws j
+
+  pub live-rules : liveValue n ws leaf j ≡ true → Live (valueRecordOf n ws j)
+  unfolding liveValue
+  live-rules e =
+      record {
+        zero0 = eqb-true (r .register0) 0 (search (and-l, and-r) depth 8);
+        zero1 = eqb-true (r .register1) 0 (search (and-l, and-r) depth 8);
+        zero2 = eqb-true (r .register2) 0 (search (and-l, and-r) depth 8);
+        zero3 = eqb-true (r .register3) 0 (search (and-l, and-r) depth 8);
+      }
+
+  pub live-passes : Live (valueRecordOf n ws j) → liveValue n ws leaf j ≡ true
+  unfolding liveValue
+  live-passes l =
+      rw (eq-eqb (r .register0) 0 (l .zero0), eq-eqb (r .register1) 0 (l .zero1), eq-eqb (r .register2) 0 (l .zero2), eq-eqb (r .register3) 0 (l .zero3))
 
 link-rules : (bump i next : ℕ) → linkOk bump i next ≡ true → Link bump i next
 link-rules bump i next e =
@@ -143,15 +156,18 @@ link-rules bump i next e =
 link-passes : (bump i next : ℕ) → Link bump i next → linkOk bump i next ≡ true
 link-passes bump i next l = rw (le-leb 1 next (l .some), le-leb next bump (l .most), ne-eqb next i (l .other))
 
-pub free-node-rules : (h : Header) (i : ℕ) (x : Node) → freeNode h i x ≡ true → FreeNode h i x
+pub free-node-clean : (h : Header) (ws : List ℕ) (i : ℕ) (x : Node) → freeNode h ws i x ≡ true → paddingOf ws i ≡ 0
 unfolding freeNode
-free-node-rules h i x e =
+free-node-clean h ws i x e = padding-rule ws i (search and-l)
+
+pub free-node-rules : (h : Header) (ws : List ℕ) (i : ℕ) (x : Node) → freeNode h ws i x ≡ true → FreeNode h i x
+unfolding freeNode
+free-node-rules h ws i x e =
     let first : not (eqb i 1) || eqb (x .parent .0) 0 ≡ true = search (and-l, and-r) depth 10 in
     let linked : linkOk (h .nodes .bump) i (x .left .0) ≡ true = search (and-l, and-r) depth 10 in
     record {
       no-value = eqb-true (x .value .0) 0 (search (and-l, and-r) depth 10);
       no-right = eqb-true (x .right .0) 0 (search (and-l, and-r) depth 10);
-      no-padding = eqb-true (x .padding) 0 (search (and-l, and-r) depth 10);
       link = link-rules (h .nodes .bump) i (x .left .0) linked;
       parent-used = ltb-true (x .parent .0) (h .nodes .bump) (search (and-l, and-r) depth 10);
       first-parent = λ z. ⊎-elim
@@ -161,13 +177,13 @@ free-node-rules h i x e =
       prefix-most = leb-true (x .prefix) 128 (search (and-l, and-r) depth 10);
     }
 
-pub free-node-passes : (h : Header) (i : ℕ) (x : Node) → FreeNode h i x → freeNode h i x ≡ true
+pub free-node-passes : (h : Header) (ws : List ℕ) (i : ℕ) (x : Node) → paddingOf ws i ≡ 0 → FreeNode h i x → freeNode h ws i x ≡ true
 unfolding freeNode
-free-node-passes h i x f =
+free-node-passes h ws i x clean f =
     rw (
+      padding-passes ws i clean,
       eq-eqb (x .value .0) 0 (f .no-value),
       eq-eqb (x .right .0) 0 (f .no-right),
-      eq-eqb (x .padding) 0 (f .no-padding),
       link-passes (h .nodes .bump) i (x .left .0) (f .link),
       lt-ltb (x .parent .0) (h .nodes .bump) (f .parent-used),
       le-leb (x .prefix) 128 (f .prefix-most),

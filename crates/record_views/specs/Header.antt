@@ -1,179 +1,95 @@
--- The header after a store: its first four words, and the counts of each arena. What a step of an arena does to its own counts is in `node_allocator`; here is everything that leaves them.
-use mathlib.Core.Path.{_≡_, refl, sym, ap}
+-- The header after a store, and the words of padding: what each is made of, and what leaves it.
+use mathlib.Core.Path.{_≡_, refl, sym, ap, _∙_}
 use mathlib.Core.List.{List}
-use mathlib.Core.Logic.{_≢_, _⊎_, inl, inr}
-use mathlib.Core.Bool.{Bool, true, false, cond}
-use Prim.Native.Nat.{ℕ, _+_, _-_, _*_, _≤_, _<_}
+use mathlib.Core.Logic.{inl, inr}
+use Prim.Native.Nat.{ℕ, _+_, _≤_, _<_}
 use native.Mathlib.Omega.{arith}
-use lib.ListN.{length, getD, set, length-set}
-use lib.Seq.{getD-set-same}
-use Rattle.words.specs.Tests.{either-way}
-use Rattle.words.specs.Wide.{wideAt, set-wide-length}
+use lib.ListN.{getD}
 use Rattle.node_allocator.specs.declared.Arena.the-variants.{Nodes, Values}
-use Rattle.node_allocator.specs.declared.Field.{Field}
-use Rattle.node_allocator.specs.Layout.{nodeAt, valueAt, headerAt, recordAt, capacityOf, registerOf, inside}
-use Rattle.node_allocator.specs.Steps.{countsOf, setRegister, addImage, removeImage}
-use Rattle.arena_laws.specs.Places.{Inside, is-inside, register-small}
-use Rattle.arena_laws.specs.Laws.{Outside, register-others, register-length, counts-same, counts-set}
-use Rattle.arena_laws.specs.Taken.{add-others, remove-others, add-length, remove-length}
+use Rattle.node_allocator.specs.declared.Counts.{Counts}
+use Rattle.node_allocator.specs.Layout.{nodeAt, valuesAt, headerAt, recordAt, capacityOf}
+use Rattle.node_allocator.specs.Steps.{countsOf}
+use Rattle.arena_laws.specs.Laws.{counts-same}
 use Rattle.records.specs.declared.Header.{Header}
-use Rattle.records.specs.declared.Content.{Content}
-use Rattle.records.specs.declared.Value.{Value}
-use Rattle.records.specs.Records.{headerOf}
-use Rattle.records.specs.Writes.{contentAt, setContent, valueSetAt, setValue}
-use Rattle.record_views.specs.Nodes.{Same, value-others, content-others}
+use Rattle.records.specs.Records.{headerOf, frontOf, paddingOf}
+use Rattle.record_views.specs.Words.{Alike, wide-same}
+use Rattle.record_views.specs.Kept.{dataOf, Off, Keeps, Spares, Elsewhere}
 
 -- ---- the header by its parts
 
-pub header-parts : (m n : ℕ) (ws : List ℕ)
-    → headerOf n ws ≡ record { padding0 = wideAt ws 0; root = record { 0 = getD ws 2 0 }; padding1 = getD ws 3 0; nodes = countsOf (Nodes n) ws; values = countsOf (Values n m) ws }
+pub nodes-are : (n : ℕ) (ws : List ℕ) → headerOf n ws .nodes ≡ countsOf (Nodes n) ws
 unfolding headerOf countsOf headerAt
-header-parts m n ws = refl
+nodes-are n ws = refl
 
--- the header is what its words are
-pub header-same : (n : ℕ) (vs ws : List ℕ) → Same vs ws 0 8 → Same vs ws (12 * n + 8) (12 * n + 12) → headerOf n vs ≡ headerOf n ws
-unfolding headerOf wideAt
-header-same n vs ws f g =
-    let e0 = f 0 (omega arith) (omega arith) in
-    let e1 = f 1 (omega arith) (omega arith) in
-    let e2 = f 2 (omega arith) (omega arith) in
-    let e3 = f 3 (omega arith) (omega arith) in
-    let e4 = f 4 (omega arith) (omega arith) in
-    let e5 = f 5 (omega arith) (omega arith) in
-    let e6 = f 6 (omega arith) (omega arith) in
-    let e7 = f 7 (omega arith) (omega arith) in
-    let g0 = g (12 * n + 8) (omega arith) (omega arith) in
-    let g1 = g (12 * n + 8 + 1) (omega arith) (omega arith) in
-    let g2 = g (12 * n + 8 + 2) (omega arith) (omega arith) in
-    let g3 = g (12 * n + 8 + 3) (omega arith) (omega arith) in
-    simp (e0, e1, e2, e3, e4, e5, e6, e7, g0, g1, g2, g3)
+pub values-are : (m n : ℕ) (ws : List ℕ) → headerOf n ws .values ≡ countsOf (Values n m) ws
+unfolding headerOf countsOf headerAt
+values-are m n ws = refl
 
--- ---- the words that a store leaves: `From` is before the nodes' header, or between the arenas
+pub header-is : (m n : ℕ) (ws : List ℕ) {r : ℕ} {p q : Counts} → getD ws 2 0 ≡ r → countsOf (Nodes n) ws ≡ p → countsOf (Values n m) ws ≡ q
+    → headerOf n ws ≡ record { root = record { 0 = r }; nodes = p; values = q }
+unfolding headerOf countsOf headerAt
+header-is m n ws e f g = λ ι. record { root = record { 0 = e ι }; nodes = f ι; values = g ι }
 
-module _ (n : ℕ) (ws : List ℕ) where
-  -- a node's register and content stand between the two headers
-  pub register-away : (i v : ℕ) (f : Field) → 1 ≤ i → i ≤ n → (k : ℕ) → (k < 8) ⊎ (12 * n + 8 ≤ k) → getD (setRegister (Nodes n) ws i v f) k 0 ≡ getD ws k 0
-  unfolding recordAt
-  register-away i v f h l k o = register-others (Nodes n) ws i v f k (out o)
-    where
-      out : (k < 8) ⊎ (12 * n + 8 ≤ k) → k ≡ nodeAt i + registerOf f → ⊥
-      out (inl a) e = omega (arith, register-small f)
-      out (inr a) e = omega (arith, register-small f)
+-- ---- what leaves it
 
-  pub content-away : (i : ℕ) (c : Content) (k : ℕ) → (k < 8) ⊎ (12 * n + 8 ≤ k) → getD (setContent n ws i c) k 0 ≡ getD ws k 0
-  unfolding setContent recordAt capacityOf
-  content-away i c k o = go (inside (Nodes n) i) refl
-    where
-      side : Inside (Nodes n) i → (k < 8) ⊎ (12 * n + 8 ≤ k) → (k < nodeAt i + 4) ⊎ (nodeAt i + 12 ≤ k)
-      side named (inl a) = inl (omega (arith, named .low))
-      side named (inr a) = inr (omega (arith, named .high, named .low))
+-- a word of the header: the root, and the counts of both arenas
+pub data Heading (n k : ℕ) : Type 0 where
+  root : k ≡ 2 → Heading n k
+  nodes : 4 ≤ k → k < 8 → Heading n k
+  values : valuesAt n ≤ k → k < valuesAt n + 4 → Heading n k
 
-      go : (b : Bool) → inside (Nodes n) i ≡ b → getD (cond b (contentAt ws (nodeAt i) c) ws) k 0 ≡ getD ws k 0
-      go false e = refl
-      go true e = content-others ws (nodeAt i) c k (side (is-inside (Nodes n) i e) o)
+-- none of them is data of a record
+pub node-apart : {n i : ℕ} → Spares (Heading n) (Nodes n) i
+unfolding recordAt dataOf capacityOf
+node-apart {n} {i} = record { off = go }
+  where
+    go : (k : ℕ) → Heading n k → Off (Nodes n) i k
+    go k (root e) named = inl (omega (arith, named .low))
+    go k (nodes l h) named = inl (omega (arith, named .low))
+    go k (values l h) named = inr (omega (arith, named .low, named .high))
 
-  module _ (i v : ℕ) (f : Field) (h : 1 ≤ i) (l : i ≤ n) where
-    pub register-top : Same (setRegister (Nodes n) ws i v f) ws 0 4
-    register-top k a b = register-away i v f h l k (inl (omega arith))
+pub value-apart : {m n j : ℕ} → Spares (Heading n) (Values n m) j
+unfolding recordAt
+value-apart {m} {n} {j} = record { off = go }
+  where
+    go : (k : ℕ) → Heading n k → Off (Values n m) j k
+    go k (root e) named = inl (omega arith)
+    go k (nodes l h) named = inl (omega (arith, named .low))
+    go k (values l h) named = inl (omega (arith, named .low))
 
-    pub register-nodes : countsOf (Nodes n) (setRegister (Nodes n) ws i v f) ≡ countsOf (Nodes n) ws
-    unfolding headerAt
-    register-nodes = counts-same (Nodes n) ws (setRegister (Nodes n) ws i v f) (λ k a b. register-away i v f h l k (inl (omega arith)))
+pub header-kept : {n : ℕ} {ws vs : List ℕ} → Keeps (Heading n) ws vs → headerOf n vs ≡ headerOf n ws
+unfolding headerAt
+header-kept {n} {ws} {vs} t =
+    header-is 0 n vs (t .word 2 (root refl))
+    (counts-same (Nodes n) ws vs (λ k l h. t .word k (nodes l h)))
+    (counts-same (Values n 0) ws vs (λ k l h. t .word k (values l h)))
+    ∙ sym (header-is 0 n ws refl refl refl)
 
-    pub register-values : (m : ℕ) → countsOf (Values n m) (setRegister (Nodes n) ws i v f) ≡ countsOf (Values n m) ws
-    unfolding headerAt
-    register-values m = counts-same (Values n m) ws (setRegister (Nodes n) ws i v f) (λ k a b. register-away i v f h l k (inr (omega arith)))
+-- a step of one arena leaves the root and the other's counts
+pub nodes-header : {n i : ℕ} {ws vs : List ℕ} (c : Counts) → Keeps (Elsewhere (Nodes n) i) ws vs → countsOf (Nodes n) vs ≡ c
+    → headerOf n vs ≡ record { root = headerOf n ws .root; nodes = c; values = headerOf n ws .values }
+unfolding headerAt recordAt dataOf capacityOf
+nodes-header {n} {i} {ws} {vs} c t e =
+    let root = t .word 2 (record { outside = inl (omega arith); off = λ named. inl (omega (arith, named .low)) }) in
+    let values = counts-same (Values n 0) ws vs (λ k l h. t .word k (record { outside = inr (omega arith); off = λ named. inr (omega (arith, named .low, named .high)) })) in
+    header-is 0 n vs root e values ∙ ap (λ (h : Header). record { root = h .root; nodes = c; values = h .values }) (sym (header-is 0 n ws refl refl refl))
 
-  module _ (i : ℕ) (c : Content) where
-    pub content-top : Same (setContent n ws i c) ws 0 4
-    content-top k a b = content-away i c k (inl (omega arith))
+pub values-header : {m n j : ℕ} {ws vs : List ℕ} (c : Counts) → Keeps (Elsewhere (Values n m) j) ws vs → countsOf (Values n m) vs ≡ c
+    → headerOf n vs ≡ record { root = headerOf n ws .root; nodes = headerOf n ws .nodes; values = c }
+unfolding headerAt recordAt
+values-header {m} {n} {j} {ws} {vs} c t e =
+    let before : (k : ℕ) → k < valuesAt n → getD vs k 0 ≡ getD ws k 0 =
+    λ k l. t .word k (record { outside = inl l; off = λ named. inl (omega (arith, named .low)) }) in
+    let nodes = counts-same (Nodes n) ws vs (λ k l h. before k (omega arith)) in
+    header-is m n vs (before 2 (omega arith)) nodes e
+    ∙ ap (λ (h : Header). record { root = h .root; nodes = h .nodes; values = c }) (sym (header-is m n ws refl refl refl))
 
-    pub content-nodes : countsOf (Nodes n) (setContent n ws i c) ≡ countsOf (Nodes n) ws
-    unfolding headerAt
-    content-nodes = counts-same (Nodes n) ws (setContent n ws i c) (λ k a b. content-away i c k (inl (omega arith)))
+-- ---- padding
 
-    pub content-values : (m : ℕ) → countsOf (Values n m) (setContent n ws i c) ≡ countsOf (Values n m) ws
-    unfolding headerAt
-    content-values m = counts-same (Values n m) ws (setContent n ws i c) (λ k a b. content-away i c k (inr (omega arith)))
+pub front-kept : (ws vs : List ℕ) → Alike vs ws 0 2 → frontOf vs ≡ frontOf ws
+unfolding frontOf
+front-kept ws vs f = wide-same vs ws 0 f
 
-    pub content-length : length (setContent n ws i c) ≡ length ws
-    unfolding setContent
-    content-length = either-way (λ vs. length vs ≡ length ws) (inside (Nodes n) i) _ ws (simp set-wide-length) refl
-
-  -- ---- a value that is stored
-
-  module _ (m j : ℕ) (v : Value) where
-    pub value-away : (k : ℕ) → k < 12 * n + 12 → getD (setValue m n ws j v) k 0 ≡ getD ws k 0
-    unfolding setValue recordAt capacityOf
-    value-away k h = go (inside (Values n m) j) refl
-      where
-        go : (b : Bool) → inside (Values n m) j ≡ b → getD (cond b (valueSetAt ws (valueAt n j) v) ws) k 0 ≡ getD ws k 0
-        go false e = refl
-        go true e = value-others ws (valueAt n j) v k (inl (omega (arith, is-inside (Values n m) j e .low)))
-
-    -- past the record of a value too
-    pub value-beyond : (k : ℕ) → valueAt n j + 8 ≤ k → getD (setValue m n ws j v) k 0 ≡ getD ws k 0
-    unfolding setValue recordAt
-    value-beyond k h =
-        either-way (λ us. getD us k 0 ≡ getD ws k 0) (inside (Values n m) j) (valueSetAt ws (valueAt n j) v) ws (value-others ws (valueAt n j) v k (inr h)) refl
-
-    pub value-top : Same (setValue m n ws j v) ws 0 4
-    value-top k a b = value-away k (omega arith)
-
-    pub value-nodes : countsOf (Nodes n) (setValue m n ws j v) ≡ countsOf (Nodes n) ws
-    unfolding headerAt
-    value-nodes = counts-same (Nodes n) ws (setValue m n ws j v) (λ k a b. value-away k (omega arith))
-
-    pub value-values : countsOf (Values n m) (setValue m n ws j v) ≡ countsOf (Values n m) ws
-    unfolding headerAt
-    value-values = counts-same (Values n m) ws (setValue m n ws j v) (λ k a b. value-away k (omega arith))
-
-    pub value-length : length (setValue m n ws j v) ≡ length ws
-    unfolding setValue
-    value-length = either-way (λ vs. length vs ≡ length ws) (inside (Values n m) j) _ ws (simp set-wide-length) refl
-
-  -- ---- the root
-
-  module _ (r : ℕ) where
-    pub root-nodes : countsOf (Nodes n) (set ws 2 r) ≡ countsOf (Nodes n) ws
-    unfolding headerAt
-    root-nodes = counts-set (Nodes n) ws 2 r (inl (omega arith))
-
-    pub root-values : (m : ℕ) → countsOf (Values n m) (set ws 2 r) ≡ countsOf (Values n m) ws
-    unfolding headerAt
-    root-values m = counts-set (Values n m) ws 2 r (inl (omega arith))
-
-  -- ---- a step of one arena leaves the other's counts, and the first four words
-
-  module _ (m : ℕ) (vs : List ℕ) (i : ℕ) (low : 1 ≤ i) where
-    nodes-step : i ≤ n → ((k : ℕ) → Outside (Nodes n) k → k ≢ recordAt (Nodes n) i → getD vs k 0 ≡ getD ws k 0) → Same vs ws 0 4 × (countsOf (Values n m) vs ≡ countsOf (Values n m) ws)
-    unfolding headerAt recordAt
-    nodes-step high others = (
-      λ k a b. others k (inl (omega arith)) (λ e. omega arith),
-      counts-same (Values n m) ws vs (λ k a b. others k (inr (omega arith)) (λ e. omega arith)),
-    )
-
-    values-step : ((k : ℕ) → Outside (Values n m) k → k ≢ recordAt (Values n m) i → getD vs k 0 ≡ getD ws k 0) → Same vs ws 0 4 × (countsOf (Nodes n) vs ≡ countsOf (Nodes n) ws)
-    unfolding headerAt recordAt
-    values-step others = (
-      λ k a b. others k (inl (omega arith)) (λ e. omega arith),
-      counts-same (Nodes n) ws vs (λ k a b. others k (inl (omega arith)) (λ e. omega arith)),
-    )
-
-  pub node-added-apart : (m : ℕ) → Inside (Nodes n) (countsOf (Nodes n) ws .head)
-      → Same (addImage (Nodes n) ws) ws 0 4 × (countsOf (Values n m) (addImage (Nodes n) ws) ≡ countsOf (Values n m) ws)
-  unfolding capacityOf
-  node-added-apart m named = nodes-step m (addImage (Nodes n) ws) (countsOf (Nodes n) ws .head) (named .low) (named .high) (add-others (Nodes n) ws)
-
-  pub node-removed-apart : (m i : ℕ) → Inside (Nodes n) i
-      → Same (removeImage (Nodes n) ws i) ws 0 4 × (countsOf (Values n m) (removeImage (Nodes n) ws i) ≡ countsOf (Values n m) ws)
-  unfolding capacityOf
-  node-removed-apart m i named = nodes-step m (removeImage (Nodes n) ws i) i (named .low) (named .high) (remove-others (Nodes n) ws i)
-
-  pub value-added-apart : (m : ℕ) → Inside (Values n m) (countsOf (Values n m) ws .head)
-      → Same (addImage (Values n m) ws) ws 0 4 × (countsOf (Nodes n) (addImage (Values n m) ws) ≡ countsOf (Nodes n) ws)
-  value-added-apart m named = values-step m (addImage (Values n m) ws) (countsOf (Values n m) ws .head) (named .low) (add-others (Values n m) ws)
-
-  pub value-removed-apart : (m j : ℕ) → Inside (Values n m) j
-      → Same (removeImage (Values n m) ws j) ws 0 4 × (countsOf (Nodes n) (removeImage (Values n m) ws j) ≡ countsOf (Nodes n) ws)
-  value-removed-apart m j named = values-step m (removeImage (Values n m) ws j) j (named .low) (remove-others (Values n m) ws j)
+pub padding-kept : (ws vs : List ℕ) (i : ℕ) → Alike vs ws (nodeAt i + 10) (nodeAt i + 12) → paddingOf vs i ≡ paddingOf ws i
+unfolding paddingOf
+padding-kept ws vs i f = wide-same vs ws (nodeAt i + 10) (λ k l h. f k l (omega arith))

@@ -1,7 +1,8 @@
--- What the records of an image are after a part of one is stored: an image seen as its header, its nodes and its value records.
+-- What the records of an image are after a store: an image seen as its header, its nodes and its value records, and one calculus of stores.
 pub mod Words
-pub mod Links
+pub mod Kept
 pub mod Nodes
 pub mod Values
-pub mod Header
 pub mod Small
+pub mod Header
+pub mod Stored

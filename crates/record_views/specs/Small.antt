@@ -1,8 +1,7 @@
--- Every word stays a 32-bit word: what is stored fits, or is cut to fit. What a node of such words holds fits too.
-use mathlib.Core.Path.{_≡_, refl, sym, ap, _∙_}
+-- Every word stays a 32-bit word: what is stored fits, or is cut to fit. What a record of such words holds fits too.
+use mathlib.Core.Path.{_≡_}
 use mathlib.Core.List.{List}
-use mathlib.Core.Bool.{Bool, true, false, cond}
-use Prim.Native.Nat.{ℕ, _+_, _*_, _/_, _%_, _^_, _≤_, _<_}
+use Prim.Native.Nat.{ℕ, _+_, _/_, _%_, _^_, _≤_, _<_}
 use native.Mathlib.Omega.{arith}
 use native.Mathlib.Decide.{ℕ-discrete, decLe}
 use native.Mathlib.Nat.{lt-of-not-le}
@@ -13,108 +12,144 @@ use Rattle.words.specs.Tests.{either-way}
 use Rattle.words.specs.Wide.{wideAt, setWide}
 use Rattle.keys.specs.Number.{Fits}
 use Rattle.node_allocator.specs.declared.Arena.{Arena}
-use Rattle.node_allocator.specs.declared.Field.{Field}
-use Rattle.node_allocator.specs.declared.Field.the-variants as field
-use Rattle.node_allocator.specs.Layout.{nodeAt, headerAt, recordAt, registerOf, inside}
-use Rattle.node_allocator.specs.Steps.{countsOf, setSize, setHead, getRegister, setRegister, clearRegister, connected, freshTaken, freedTaken, unlinked, addImage, removeImage}
-use Rattle.records.specs.declared.Content.{Content}
+use Rattle.node_allocator.specs.declared.Counts.{Counts}
+use Rattle.node_allocator.specs.declared.Register.{Register}
+use Rattle.node_allocator.specs.declared.Register.the-variants.{Left}
+use Rattle.node_allocator.specs.Layout.{headerAt, recordAt, registerOf, inside}
+use Rattle.node_allocator.specs.Steps.{countsOf, setCounts, initialized, getRegister, setRegister, taken, addImage, freed, removeImage}
+use Rattle.records.specs.declared.Node.{Node}
 use Rattle.records.specs.declared.Value.{Value}
-use Rattle.records.specs.Records.{nodeOf, contentOf}
-use Rattle.records.specs.Writes.{contentAt, setContent, valueSetAt, setValue}
+use Rattle.records.specs.declared.ValueRecord.{ValueRecord}
+use Rattle.records.specs.Records.{nodeOf}
+use Rattle.records.specs.Writes.{registersSet, keySet, nodeSet, setNode, valueSet, liveRecord, setValue}
 use Rattle.lists.specs.Machine.{FitsValue}
 
 abbrev pub Small : List ℕ → Type 0
 Small ws = (k : ℕ) → getD ws k 0 < 2 ^ 32
 
--- a content's words fit 64 bits, as those of a value do (`FitsValue`)
-pub record FitsContent (c : Content) : Type 0 where
-  pub key-fits : Fits (c .key)
-  pub prefix-fits : c .prefix < 2 ^ 64
-  pub padding-fits : c .padding < 2 ^ 64
+-- ---- records whose words fit
 
-pub small-set : (ws : List ℕ) (p v : ℕ) → Small ws → v < 2 ^ 32 → Small (set ws p v)
-small-set ws p v s h k = go (ℕ-discrete k p) (decLe (length ws) p)
+pub record FitsNode (x : Node) : Type 0 where
+  pub left-fits : x .left .0 < 2 ^ 32
+  pub right-fits : x .right .0 < 2 ^ 32
+  pub parent-fits : x .parent .0 < 2 ^ 32
+  pub value-fits : x .value .0 < 2 ^ 32
+  pub key-fits : Fits (x .key)
+  pub prefix-fits : x .prefix < 2 ^ 64
+
+pub record FitsRecord (r : ValueRecord) : Type 0 where
+  pub fits0 : r .register0 < 2 ^ 32
+  pub fits1 : r .register1 < 2 ^ 32
+  pub fits2 : r .register2 < 2 ^ 32
+  pub fits3 : r .register3 < 2 ^ 32
+  pub value-fits : FitsValue (r .value)
+
+pub live-fits : {v : Value} (leaf : ℕ) → FitsValue v → FitsRecord (liveRecord leaf v)
+unfolding liveRecord
+live-fits leaf f = record { fits0 = omega arith; fits1 = omega arith; fits2 = omega arith; fits3 = omega arith; value-fits = f }
+
+pub record FitsCounts (c : Counts) : Type 0 where
+  pub bump-fits : c .bump < 2 ^ 32
+  pub head-fits : c .head < 2 ^ 32
+
+wide-fits : (ws : List ℕ) (k : ℕ) → Small ws → wideAt ws k < 2 ^ 64
+unfolding wideAt
+wide-fits ws k s = omega (arith, s k, s (k + 1))
+
+pub node-fits : (ws : List ℕ) (i : ℕ) → Small ws → FitsNode (nodeOf ws i)
+unfolding nodeOf
+node-fits ws i s =
+    record {
+      left-fits = s _;
+      right-fits = s _;
+      parent-fits = s _;
+      value-fits = s _;
+      key-fits = record { high-fits = wide-fits ws _ s; low-fits = wide-fits ws _ s };
+      prefix-fits = wide-fits ws _ s;
+    }
+
+pub counts-fit : (a : Arena) (ws : List ℕ) → Small ws → FitsCounts (countsOf a ws)
+unfolding countsOf
+counts-fit a ws s = record { bump-fits = s (headerAt a + 2); head-fits = s (headerAt a + 3) }
+
+-- ---- stores
+
+pub small-set : (ws : List ℕ) (p v : ℕ) → v < 2 ^ 32 → Small ws → Small (set ws p v)
+small-set ws p v h s k = go (ℕ-discrete k p) (decLe (length ws) p)
   where
     go : Dec (k ≡ p) → Dec (length ws ≤ p) → getD (set ws p v) k 0 < 2 ^ 32
     go (no d) l = rw (getD-set-other ws p k v 0 d) (s k)
     go (yes e) (yes l) = rw (set-out ws p v l) (s k)
     go (yes e) (no l) = rw (e, getD-set-same ws p v 0 (lt-of-not-le l)) h
 
-pub small-wide : (ws : List ℕ) (p v : ℕ) → Small ws → v < 2 ^ 64 → Small (setWide ws p v)
+small-wide : (ws : List ℕ) (p v : ℕ) → v < 2 ^ 64 → Small ws → Small (setWide ws p v)
 unfolding setWide
-small-wide ws p v s h =
-    small-set (set ws p (v % 4294967296)) (p + 1) (v / 4294967296) (small-set ws p (v % 4294967296) s (omega arith)) (omega arith)
+small-wide ws p v h s =
+    small-set (set ws p (v % 4294967296)) (p + 1) (v / 4294967296) (omega arith) (small-set ws p (v % 4294967296) (omega arith) s)
 
-pub small-register : (a : Arena) (ws : List ℕ) (i v : ℕ) (f : Field) → Small ws → v < 2 ^ 32 → Small (setRegister a ws i v f)
+small-registers : (ws : List ℕ) (k a b c d : ℕ) → a < 2 ^ 32 → b < 2 ^ 32 → c < 2 ^ 32 → d < 2 ^ 32 → Small ws → Small (registersSet ws k a b c d)
+unfolding registersSet
+small-registers ws k a b c d e f g h s =
+    small-set (set (set (set ws k a) (k + 1) b) (k + 2) c) (k + 3) d h
+    (small-set (set (set ws k a) (k + 1) b) (k + 2) c g (small-set (set ws k a) (k + 1) b f (small-set ws k a e s)))
+
+pub small-register : (a : Arena) (ws : List ℕ) (i v : ℕ) (f : Register) → v < 2 ^ 32 → Small ws → Small (setRegister a ws i v f)
 unfolding setRegister
-small-register a ws i v f s h = either-way Small (inside a i) (set ws (recordAt a i + registerOf f) v) ws (small-set ws (recordAt a i + registerOf f) v s h) s
+small-register a ws i v f h s = either-way Small (inside a i) _ ws (small-set ws (recordAt a i + registerOf f) v h s) s
 
-pub small-connected : (a : Arena) (ws : List ℕ) (i j : ℕ) (f g : Field) → Small ws → i < 2 ^ 32 → j < 2 ^ 32 → Small (connected a ws i j f g)
-unfolding connected
-small-connected a ws i j f g s h l = small-register a (setRegister a ws i j f) j i g (small-register a ws i j f s l) h
-
--- a register is a word
-pub register-fits : (a : Arena) (ws : List ℕ) (i : ℕ) (f : Field) → Small ws → getRegister a ws i f < 2 ^ 32
-unfolding getRegister
-register-fits a ws i f s = either-way (λ x. x < 2 ^ 32) (inside a i) (getD ws (recordAt a i + registerOf f) 0) 0 (s (recordAt a i + registerOf f)) (omega arith)
-
-counts-fit : (a : Arena) (ws : List ℕ) → Small ws → countsOf a ws .head < 2 ^ 32
-unfolding countsOf
-counts-fit a ws s = s (headerAt a + 3)
-
-pub small-added : (a : Arena) (ws : List ℕ) → Small ws → Small (addImage a ws)
-unfolding addImage unlinked freshTaken freedTaken
-small-added a ws s =
-    either-way Small (inside a (countsOf a ws .head)) _ ws
-    (small-wide (unlinked a ws (countsOf a ws .head) (countsOf a ws .bump)) (headerAt a) ((countsOf a ws .size + 1) % 2 ^ 64)
-    (either-way Small (eqb (countsOf a ws .head) (countsOf a ws .bump)) (freshTaken a ws (countsOf a ws .head)) (freedTaken a ws (countsOf a ws .head))
-    (small-set (set ws (headerAt a + 2) ((countsOf a ws .head + 1) % 2 ^ 32)) (headerAt a + 3) ((countsOf a ws .head + 1) % 2 ^ 32)
-    (small-set ws (headerAt a + 2) ((countsOf a ws .head + 1) % 2 ^ 32) s (omega arith))
-    (omega arith))
-    (small-register a (setHead a ws (getRegister a ws (countsOf a ws .head) field.Left)) (countsOf a ws .head) 0 field.Left
-    (small-set ws (headerAt a + 3) (getRegister a ws (countsOf a ws .head) field.Left) s (register-fits a ws (countsOf a ws .head) field.Left s))
-    (omega arith)))
-    (omega arith))
+pub small-node : (n : ℕ) (ws : List ℕ) (i : ℕ) (x : Node) → FitsNode x → Small ws → Small (setNode n ws i x)
+unfolding setNode nodeSet keySet
+small-node n ws i x f s =
+    either-way Small (inside _ i) _ ws
+    (small-wide _ _ (x .prefix) (f .prefix-fits)
+    (small-wide _ _ (x .key .high) (f .key-fits .high-fits)
+    (small-wide _ _ (x .key .low) (f .key-fits .low-fits)
+    (small-registers ws _ _ _ _ _ (f .left-fits) (f .right-fits) (f .parent-fits) (f .value-fits) s))))
     s
 
-pub small-removed : (a : Arena) (ws : List ℕ) (i : ℕ) → Small ws → i < 2 ^ 32 → Small (removeImage a ws i)
-unfolding removeImage
-small-removed a ws i s h =
-    either-way Small (inside a i) _ ws
-    (small-wide (setHead a (setRegister a ws i (countsOf a ws .head) field.Left) i) (headerAt a) ((countsOf a ws .size + 18446744073709551615) % 2 ^ 64)
-    (small-set (setRegister a ws i (countsOf a ws .head) field.Left) (headerAt a + 3) i (small-register a ws i (countsOf a ws .head) field.Left s (counts-fit a ws s)) h)
-    (omega arith))
+pub small-value : (m n : ℕ) (ws : List ℕ) (j : ℕ) (r : ValueRecord) → FitsRecord r → Small ws → Small (setValue m n ws j r)
+unfolding setValue valueSet
+small-value m n ws j r f s =
+    either-way Small (inside _ j) _ ws
+    (small-wide _ _ (r .value .second) (f .value-fits .second-fits)
+    (small-wide _ _ (r .value .first) (f .value-fits .first-fits)
+    (small-registers ws _ _ _ _ _ (f .fits0) (f .fits1) (f .fits2) (f .fits3) s)))
     s
 
-pub small-value : (m n : ℕ) (ws : List ℕ) (j : ℕ) (v : Value) → Small ws → FitsValue v → Small (setValue m n ws j v)
-unfolding setValue
-small-value m n ws j v s f =
-    either-way Small (inside _ j) (valueSetAt ws _ v) ws
-    (small-wide (setWide ws _ (v .first)) _ (v .second) (small-wide ws _ (v .first) s (f .first-fits)) (f .second-fits))
-    s
+-- ---- steps of an arena, with the header c
 
-pub small-content : (n : ℕ) (ws : List ℕ) (i : ℕ) (c : Content) → Small ws → FitsContent c → Small (setContent n ws i c)
-unfolding setContent
-small-content n ws i c s f =
-    either-way Small (inside _ i) (contentAt ws _ c) ws
-    (small-wide _ _ (c .padding)
-    (small-wide _ _ (c .prefix)
-    (small-wide _ _ (c .key .high) (small-wide ws _ (c .key .low) s (f .key-fits .low-fits)) (f .key-fits .high-fits))
-    (f .prefix-fits))
-    (f .padding-fits))
-    s
+module _ (a : Arena) (ws : List ℕ) where
+  small-counts : (c : Counts) → c .size < 2 ^ 64 → FitsCounts c → Small ws → Small (setCounts a ws c)
+  unfolding setCounts
+  small-counts c h f s =
+      let us : List ℕ = setWide ws (headerAt a) (c .size) in
+      small-set (set us (headerAt a + 2) (c .bump)) (headerAt a + 3) (c .head) (f .head-fits)
+      (small-set us (headerAt a + 2) (c .bump) (f .bump-fits) (small-wide ws (headerAt a) (c .size) h s))
 
--- ---- what a node holds fits
+  register-fits : (i : ℕ) (f : Register) → Small ws → getRegister a ws i f < 2 ^ 32
+  unfolding getRegister
+  register-fits i f s = either-way (λ x. x < 2 ^ 32) (inside a i) (getD ws (recordAt a i + registerOf f) 0) 0 (s _) (omega arith)
 
-wide-fits : (ws : List ℕ) (k : ℕ) → Small ws → wideAt ws k < 2 ^ 64
-unfolding wideAt
-wide-fits ws k s = omega (arith, s k, s (k + 1))
+  pub small-initialized : Small ws → Small (initialized a ws)
+  unfolding initialized
+  small-initialized = small-counts (record { size = 0; bump = 1; head = 1 }) (omega arith) (record { bump-fits = omega arith; head-fits = omega arith })
 
-pub content-fits : (ws : List ℕ) (i : ℕ) → Small ws → FitsContent (contentOf (nodeOf ws i))
-unfolding nodeOf
-content-fits ws i s =
-    record { key-fits = record { high-fits = wide-fits ws _ s; low-fits = wide-fits ws _ s }; prefix-fits = wide-fits ws _ s; padding-fits = wide-fits ws _ s }
+module _ (a : Arena) (ws : List ℕ) where
+  pub small-added : (c : Counts) → FitsCounts c → Small ws → Small (addImage a ws c)
+  unfolding addImage taken
+  small-added c f s =
+      either-way Small (inside a (c .head)) _ ws
+      (small-counts a _ (taken c (getRegister a ws (c .head) Left)) (omega arith)
+      (record {
+        bump-fits = either-way (λ x. x < 2 ^ 32) (eqb (c .head) (c .bump)) ((c .head + 1) % 2 ^ 32) (c .bump) (omega arith) (f .bump-fits);
+        head-fits = either-way (λ x. x < 2 ^ 32) (eqb (c .head) (c .bump)) ((c .head + 1) % 2 ^ 32) _ (omega arith) (register-fits a ws (c .head) Left s);
+      })
+      (small-register a ws (c .head) 0 Left (omega arith) s))
+      s
 
-pub value-fits : (ws : List ℕ) (i : ℕ) → Small ws → nodeOf ws i .value .0 < 2 ^ 32
-unfolding nodeOf
-value-fits ws i s = s (nodeAt i + 3)
+  pub small-removed : (i : ℕ) (c : Counts) → i < 2 ^ 32 → FitsCounts c → Small ws → Small (removeImage a ws i c)
+  unfolding removeImage freed
+  small-removed i c h f s =
+      either-way Small (inside a i) _ ws
+      (small-counts a _ (freed c i) (omega arith) (record { bump-fits = f .bump-fits; head-fits = h }) (small-register a ws i (c .head) Left (f .head-fits) s))
+      s
