@@ -1,27 +1,27 @@
--- Document 01, "So each record is in the tree, on the chain or never used, one of the three": on an accepted image, for each node and each value record.
+-- Rule T16: each record is in the tree, on the chain or never used, one of the three. So a node's padding is tested, whichever it is.
 use mathlib.Core.Path.{_≡_, refl, sym, subst, _∙_}
 use mathlib.Core.List.{List, [], _∷_, _++_, map}
-use mathlib.Core.Logic.{_≢_, inl, inr}
+use mathlib.Core.Logic.{_≢_, _⊎_, inl, inr}
 use mathlib.Core.Option.{none, some}
 use Prim.Native.Nat.{ℕ, _+_, _-_, _*_, _≤_}
 use native.Mathlib.Omega.{arith}
 use lib.ListN.{length, length-append, length-map}
+use Rattle.words.specs.Wide.{wideAt}
 use Rattle.words.specs.Zeros.{Zeros}
 use Rattle.node_allocator.specs.Layout.{nodeAt, valueAt}
 use Rattle.node_allocator.specs.declared.Counts.{Counts}
 use Rattle.records.specs.declared.Header.{Header}
-use Rattle.records.specs.Records.{headerOf, nodeOf, valueRecordOf}
+use Rattle.records.specs.Records.{headerOf, nodeOf, paddingOf, valueRecordOf}
 use Rattle.lists.specs.Lists.{All, all-map, all-append, all-mapped, pairs-append, pairs-mapped}
 use Rattle.trees.specs.Tree.{Tree, leaf, inner, entries}
 use Rattle.trees.specs.Nodes.{In}
 use Rattle.trees.specs.Map.{Map, listOf}
 use Rattle.trees.specs.Values.{Entry, Numbered}
-use Rattle.accepted.specs.Rules.{Live, FreeNode, FreeValue, Chain}
+use Rattle.accepted.specs.Rules.{HeaderRules, Live, FreeNode, FreeValue, Chain, NodeChain}
 use Rattle.accepted.specs.Accepted.{Accepted, HoldsMap, nodesIn}
-use Rattle.accepted.specs.Held.{Once, once, in-range, some-nodes}
+use Rattle.accepted.specs.Held.{Once, once, in-range, some-nodes, entries-used}
 use Rattle.accepted.specs.Apart.{chain-once, node-not-free, live-not-free}
 use Rattle.accepted.specs.Frame.{chain-range}
-use Rattle.accepted_check.specs.Exact.{holds-placed}
 use Rattle.accepted_check.specs.Pigeons.{Has, Apart, Within, has-all, has-left, has-right, OneOfThree, three-alike, three-places}
 
 -- ---- the records of a tree
@@ -123,24 +123,39 @@ in-map : (x : ℕ) (t : Map) → InMap x t → Has x (nodesOfMap t)
 in-map x none q = q
 in-map x (some t) q = in-node x t q
 
-module _ {m n : ℕ} {ws : List ℕ} (a : Accepted m n ws) where
-  tree-nodes : (t : Map) → HoldsMap (headerOf n ws) ws t → Uses (headerOf n ws .nodes) (nodesOfMap t)
+-- by the header, the tree and the chain alone: what the check has at hand before it knows that the image is accepted
+module _ {m n : ℕ} {h : Header} (ws : List ℕ) (rules : HeaderRules m n h) where
+  tree-nodes : (t : Map) → HoldsMap h ws t → Uses (h .nodes) (nodesOfMap t)
   unfolding HoldsMap
-  tree-nodes none k = record { different = tt; within = tt; many = omega (arith, a .header .node-size) }
+  tree-nodes none k = record { different = tt; within = tt; many = omega (arith, rules .node-size) }
   tree-nodes (some t) k =
       record {
-        different = nodes-apart (headerOf n ws) ws t (once (headerOf n ws) ws 0 0 t (k .held));
-        within =
-            all-nodes (λ x. (1 ≤ x) × (x ≤ headerOf n ws .nodes .bump - 1)) t
-            (λ x q. let r = in-range (headerOf n ws) ws 0 0 t x (k .held) q in (r .0, omega (arith, r .1)));
+        different = nodes-apart h ws t (once h ws 0 0 t (k .held));
+        within = all-nodes (λ x. (1 ≤ x) × (x ≤ h .nodes .bump - 1)) t (λ x q. let r = in-range h ws 0 0 t x (k .held) q in (r .0, omega (arith, r .1)));
         many = nodes-length t ∙ k .counted;
       }
 
-  node-taken : (t : Map) → HoldsMap (headerOf n ws) ws t → (x : ℕ) → Has x (nodesOfMap t) → FreeNode (headerOf n ws) x (nodeOf ws x) → ⊥
+  node-taken : (t : Map) → HoldsMap h ws t → (x : ℕ) → Has x (nodesOfMap t) → FreeNode h x (nodeOf ws x) → ⊥
   unfolding HoldsMap
   node-taken none k x q f = q
-  node-taken (some t) k x q f = node-not-free (headerOf n ws) ws 0 0 t x (k .held) (node-in x t q) f
+  node-taken (some t) k x q f = node-not-free h ws 0 0 t x (k .held) (node-in x t q) f
 
+  module _ (t : Map) (xs : List ℕ) (k : HoldsMap h ws t) (c : NodeChain h ws xs) (count : length xs ≡ h .nodes .bump - 1 - h .nodes .size) where
+    nodes-placed : (x : ℕ) → 1 ≤ x → OneOfThree (Has x (nodesOfMap t)) (Has x xs) (h .nodes .bump ≤ x)
+    nodes-placed = chained (h .nodes) _ _ (nodesOfMap t) xs (tree-nodes t k) c count (node-taken t k)
+
+    -- padding is zero, where it is in the tree, on the chain, and in what was never used
+    pub padding-zero : ((x : ℕ) → InMap x t → paddingOf ws x ≡ 0) → All (λ x. paddingOf ws x ≡ 0) xs
+        → Zeros ws (nodeAt (h .nodes .bump)) (12 * (n + 1 - h .nodes .bump)) → (i : ℕ) → 1 ≤ i → i ≤ n → paddingOf ws i ≡ 0
+    unfolding paddingOf wideAt
+    padding-zero in-tree on-chain unused i low high = go (nodes-placed i low .at-least)
+      where
+        go : Has i (nodesOfMap t) ⊎ (Has i xs ⊎ (h .nodes .bump ≤ i)) → paddingOf ws i ≡ 0
+        go (inl q) = in-tree i (map-in i t q)
+        go (inr (inl q)) = has-all (λ x. paddingOf ws x ≡ 0) i xs on-chain q
+        go (inr (inr l)) = rw (unused (nodeAt i + 10) (omega arith) (omega arith), unused (nodeAt i + 10 + 1) (omega arith) (omega arith))
+
+module _ {m n : ℕ} {ws : List ℕ} (a : Accepted m n ws) where
   -- Each node is in the tree, on the chain of free nodes, or never used, and only one of the three.
   pub node-places : (x : ℕ) → 1 ≤ x → x ≤ n
       → OneOfThree (InMap x (a .tree)) (Has x (a .free-nodes)) (NeverUsed ws (headerOf n ws .nodes .bump) (nodeAt x) 12 x)
@@ -148,7 +163,7 @@ module _ {m n : ℕ} {ws : List ℕ} (a : Accepted m n ws) where
       three-alike (map-in x (a .tree)) (in-map x (a .tree))
       (λ l. record { beyond = l; zeros = λ j p q. a .nodes-unused j (omega arith) (omega arith) })
       (λ u. u .beyond)
-      (chained (headerOf n ws .nodes) _ _ (nodesOfMap (a .tree)) (a .free-nodes) (tree-nodes (a .tree) (a .holds)) (a .node-chain) (a .node-count) (node-taken (a .tree) (a .holds)) x low)
+      (nodes-placed ws (a .header) (a .tree) (a .free-nodes) (a .holds) (a .node-chain) (a .node-count) x low)
 
   tree-values : (t : Map) → HoldsMap (headerOf n ws) ws t → Numbered (listOf t) → Uses (headerOf n ws .values) (namedBy (listOf t))
   unfolding HoldsMap
@@ -158,7 +173,7 @@ module _ {m n : ℕ} {ws : List ℕ} (a : Accepted m n ws) where
         different = pairs-mapped (λ (i j : ℕ). i ≢ j) (λ (e : Entry). e .1) (entries t) (d .different);
         within =
             all-mapped (λ (j : ℕ). (1 ≤ j) × (j ≤ headerOf n ws .values .bump - 1)) (λ (e : Entry). e .1) (entries t)
-            (holds-placed (headerOf n ws) ws (headerOf n ws .values .bump - 1) 0 0 t (omega arith) (k .held));
+            (all-map (λ e u. (u .0, omega (arith, u .1))) (entries t) (entries-used (headerOf n ws) ws 0 0 t (k .held)));
         many = omega (arith, length-map (entries t) (λ (e : Entry). e .1), entries-count t, k .counted, a .header .node-size, some-nodes t);
       }
 

@@ -12,79 +12,64 @@ use Rattle.words.specs.Tests.{and-l, and-r, or-cases, not-true}
 use Rattle.keys.specs.declared.Key.{Key}
 use Rattle.records.specs.declared.Header.{Header}
 use Rattle.records.specs.declared.Node.{Node}
-use Rattle.records.specs.Records.{nodeOf, valueRecordOf}
-use Rattle.inspection.specs.Tests.{leafForm, innerForm, formOk, nodeOk, liveValue}
+use Rattle.records.specs.Records.{nodeOf, paddingOf, valueRecordOf}
+use Rattle.inspection.specs.Tests.{isLeaf, isFork, formOk, nodeOk, liveValue}
+use Rattle.inspection.specs.Visit.{passed}
 use Rattle.full_check.specs.Walk.{Walk, failed, visitOk, leafWalk, joined, walkOf}
 use Rattle.lists.specs.Lists.{all-append}
 use Rattle.trees.specs.Tree.{Tree, leaf, inner, top, keyOf, prefixOf, entries, Ordered}
+use Rattle.trees.specs.Nodes.{In}
 use Rattle.trees.specs.Values.{Entry}
-use Rattle.record_views.specs.Small.{Small, content-fits}
-use Rattle.accepted.specs.Rules.{Holds, Live, leafNode, innerNode}
+use Rattle.record_views.specs.Small.{Small, node-fits}
+use Rattle.accepted.specs.Rules.{Holds, Live}
 use Rattle.accepted.specs.Accepted.{nodesIn}
-use Rattle.accepted.specs.Tests.{live-rules}
+use Rattle.accepted.specs.Tests.{padding-rule, live-rules}
 use Rattle.accepted_check.specs.Sides.{OnSide, side-rules, side-down}
 use Rattle.accepted_check.specs.Marks.{marked, Fresh, marked-append, fresh-append}
 use Rattle.accepted_check.specs.Passes.{LiveAll, top-rises}
 
 -- ---- a visited node that passes
 
-pub record LeafHere (h : Header) (i above low : ℕ) (x : Node) : Type 0 where
-  pub index-some : 1 ≤ i
-  pub index-used : i < h .nodes .bump
-  pub here : x ≡ leafNode above (x .key) (x .value .0)
-  pub rises : low ≤ 128
-  pub value-some : 1 ≤ x .value .0
-  pub value-used : x .value .0 < h .values .bump
+module _ (h : Header) (ws : List ℕ) (i above low : ℕ) (ok : nodeOk h ws i above low ≡ true) where
+  abbrev x : Node
+  x = nodeOf ws i
 
-pub record InnerHere (h : Header) (i above low : ℕ) (x : Node) : Type 0 where
-  pub index-some : 1 ≤ i
-  pub index-used : i < h .nodes .bump
-  pub here : x ≡ innerNode above (x .key) (x .prefix) (x .left .0) (x .right .0)
-  pub rises : low ≤ x .prefix
-  pub short : x .prefix < 128
-  pub two : x .left .0 ≢ x .right .0
-
-module _ (h : Header) (i above low : ℕ) (x : Node) (ok : nodeOk h i above low x ≡ true) where
-  form : formOk h i x ≡ true
+  form : formOk h ws i ≡ true
   unfolding nodeOk
-  form = search (and-l, and-r) depth 8
+  form = search (and-l, and-r)
 
-  parent-is : x .parent .0 ≡ above
+  parent-is : nodeOf ws i .parent .0 ≡ above
   unfolding nodeOk
-  parent-is = eqb-true (x .parent .0) above (search (and-l, and-r) depth 8)
+  parent-is = eqb-true (x .parent .0) above (search (and-l, and-r))
 
-  prefix-rises : low ≤ x .prefix
-  unfolding nodeOk
-  prefix-rises = leb-true low (x .prefix) (search (and-l, and-r) depth 8)
-
-  some-index : 1 ≤ i
+  used : (1 ≤ i) × (i < h .nodes .bump)
   unfolding formOk
-  some-index = let f : formOk h i x ≡ true = form in leb-true 1 i (search (and-l, and-r) depth 8)
+  used =
+      let f : formOk h ws i ≡ true = form in
+      (leb-true 1 i (search (and-l, and-r) depth 8), ltb-true i (h .nodes .bump) (search (and-l, and-r) depth 8))
 
-  used-index : i < h .nodes .bump
+  pub node-clean : paddingOf ws i ≡ 0
   unfolding formOk
-  used-index = let f : formOk h i x ≡ true = form in ltb-true i (h .nodes .bump) (search (and-l, and-r) depth 8)
+  node-clean = let f : formOk h ws i ≡ true = form in padding-rule ws i (search (and-l, and-r) depth 8)
 
-  no-padding : x .padding ≡ 0
+  kinds : (isLeaf h (nodeOf ws i) ≡ true) ⊎ (isFork (nodeOf ws i) ≡ true)
   unfolding formOk
-  no-padding = let f : formOk h i x ≡ true = form in eqb-true (x .padding) 0 (search (and-l, and-r) depth 8)
+  kinds = let f : formOk h ws i ≡ true = form in or-cases (isLeaf h x) (isFork x) (search (and-l, and-r) depth 8)
 
-  forms : (leafForm h x ≡ true) ⊎ (innerForm x ≡ true)
-  unfolding formOk
-  forms = let f : formOk h i x ≡ true = form in or-cases (leafForm h x) (innerForm x) (search (and-l, and-r) depth 8)
-
-  pub leaf-here : x .value .0 ≢ 0 → LeafHere h i above low x
-  leaf-here d = go forms
+  -- one with a value is a leaf that the image holds
+  pub leaf-held : nodeOf ws i .value .0 ≢ 0 → Holds h ws above low (leaf i (nodeOf ws i .key) (nodeOf ws i .value .0))
+  unfolding Holds
+  leaf-held d = go kinds
     where
-      go : (leafForm h x ≡ true) ⊎ (innerForm x ≡ true) → LeafHere h i above low x
-      go (inr f) = absurd (d (eqb-true (x .value .0) 0 (search (and-l, and-r) depth 8)))
+      go : (isLeaf h (nodeOf ws i) ≡ true) ⊎ (isFork (nodeOf ws i) ≡ true) → Holds h ws above low (leaf i (nodeOf ws i .key) (nodeOf ws i .value .0))
+      go (inr f) = absurd (d (eqb-true (x .value .0) 0 (search and-l)))
       go (inl f) =
           let no-left : x .left .0 ≡ 0 = eqb-true (x .left .0) 0 (search (and-l, and-r) depth 8) in
           let no-right : x .right .0 ≡ 0 = eqb-true (x .right .0) 0 (search (and-l, and-r) depth 8) in
           let long : x .prefix ≡ 128 = eqb-true (x .prefix) 128 (search (and-l, and-r) depth 8) in
           record {
-            index-some = some-index;
-            index-used = used-index;
+            index-some = used .0;
+            index-used = used .1;
             here =
                 λ ι. record {
                   left = record { 0 = no-left ι };
@@ -93,35 +78,39 @@ module _ (h : Header) (i above low : ℕ) (x : Node) (ok : nodeOk h i above low 
                   value = x .value;
                   key = x .key;
                   prefix = long ι;
-                  padding = no-padding ι;
                 };
-            rises = omega (arith, prefix-rises);
+            rises = omega (arith, passed h ws i above low ok .rises);
             value-some = leb-true 1 (x .value .0) (search (and-l, and-r) depth 8);
             value-used = ltb-true (x .value .0) (h .values .bump) (search (and-l, and-r) depth 8);
           }
 
-  pub inner-here : x .value .0 ≡ 0 → InnerHere h i above low x
-  inner-here z = go forms
+  -- one without is an inner node, over the trees at its children
+  pub inner-held : nodeOf ws i .value .0 ≡ 0 → (l r : Tree) → top l ≡ nodeOf ws i .left .0 → top r ≡ nodeOf ws i .right .0
+      → Holds h ws i (nodeOf ws i .prefix + 1) l → Holds h ws i (nodeOf ws i .prefix + 1) r → Holds h ws above low (inner i (nodeOf ws i .key) (nodeOf ws i .prefix) l r)
+  unfolding Holds
+  inner-held z l r at-left at-right a b = go kinds
     where
-      go : (leafForm h x ≡ true) ⊎ (innerForm x ≡ true) → InnerHere h i above low x
+      go : (isLeaf h (nodeOf ws i) ≡ true) ⊎ (isFork (nodeOf ws i) ≡ true) → Holds h ws above low (inner i (nodeOf ws i .key) (nodeOf ws i .prefix) l r)
       go (inl f) = absurd (omega (arith, leb-true 1 (x .value .0) (search (and-l, and-r) depth 8)))
       go (inr f) =
+          let two : x .left .0 ≢ x .right .0 = eqb-false (x .left .0) (x .right .0) (not-true _ (search (and-l, and-r) depth 8)) in
           record {
-            index-some = some-index;
-            index-used = used-index;
+            index-some = used .0;
+            index-used = used .1;
             here =
                 λ ι. record {
-                  left = x .left;
-                  right = x .right;
+                  left = record { 0 = sym at-left ι };
+                  right = record { 0 = sym at-right ι };
                   parent = record { 0 = parent-is ι };
                   value = record { 0 = z ι };
                   key = x .key;
                   prefix = x .prefix;
-                  padding = no-padding ι;
                 };
-            rises = prefix-rises;
+            rises = passed h ws i above low ok .rises;
             short = ltb-true (x .prefix) 128 (search (and-l, and-r) depth 8);
-            two = eqb-false (x .left .0) (x .right .0) (not-true _ (search (and-l, and-r) depth 8));
+            two = λ e. two (sym at-left ∙ e ∙ at-right);
+            on-left = a;
+            on-right = b;
           }
 
 -- ---- the tree of a walk that passed
@@ -131,6 +120,7 @@ pub record Reached (n : ℕ) (h : Header) (ws : List ℕ) (rest : ℕ) (marks : 
   pub tree : Tree
   pub at-top : top tree ≡ i
   pub held : Holds h ws above low tree
+  pub clean : (x : ℕ) → In x tree → paddingOf ws x ≡ 0
   pub ordered : Ordered tree
   pub on-side : OnSide low key right (keyOf tree)
   pub counted : nodesIn tree + w .rest ≡ rest
@@ -139,10 +129,10 @@ pub record Reached (n : ℕ) (h : Header) (ws : List ℕ) (rest : ℕ) (marks : 
   pub marks-are : w .marks ≡ marked marks (entries tree)
 
 module _ (n : ℕ) (h : Header) (ws : List ℕ) (small : Small ws) where
-  module _ (rest : ℕ) (marks : List ℕ) (i above low : ℕ) (key : Key) (right : Bool) (ok : visitOk h rest i above low key right (nodeOf ws i) ≡ true) where
-    node-ok : nodeOk h i above low (nodeOf ws i) ≡ true
+  module _ (rest : ℕ) (marks : List ℕ) (i above low : ℕ) (key : Key) (right : Bool) (ok : visitOk h ws rest i above low key right ≡ true) where
+    node-ok : nodeOk h ws i above low ≡ true
     unfolding visitOk
-    node-ok = search (and-l, and-r)
+    node-ok = search and-l
 
     side-ok : OnSide low key right (nodeOf ws i .key)
     unfolding visitOk
@@ -152,15 +142,12 @@ module _ (n : ℕ) (h : Header) (ws : List ℕ) (small : Small ws) where
     unfolding visitOk
     rest-some = ltb-true 0 rest (search (and-l, and-r))
 
-    leaf-reached : nodeOf ws i .value .0 ≢ 0 → leafWalk n ws (rest - 1) marks (nodeOf ws i) .passed ≡ true
-        → Reached n h ws rest marks i above low key right (leafWalk n ws (rest - 1) marks (nodeOf ws i))
+    leaf-reached : nodeOf ws i .value .0 ≢ 0 → leafWalk n ws (rest - 1) marks i (nodeOf ws i) .passed ≡ true
+        → Reached n h ws rest marks i above low key right (leafWalk n ws (rest - 1) marks i (nodeOf ws i))
     unfolding leafWalk Holds nodesIn
-    leaf-reached d = go (liveValue (valueRecordOf n ws (nodeOf ws i .value .0)) && eqb (getD marks (nodeOf ws i .value .0 - 1) 0) 0) refl
+    leaf-reached d = go (liveValue n ws i (nodeOf ws i .value .0) && eqb (getD marks (nodeOf ws i .value .0 - 1) 0) 0) refl
       where
-        x : LeafHere h i above low (nodeOf ws i)
-        x = leaf-here h i above low (nodeOf ws i) node-ok d
-
-        go : (b : Bool) → liveValue (valueRecordOf n ws (nodeOf ws i .value .0)) && eqb (getD marks (nodeOf ws i .value .0 - 1) 0) 0 ≡ b
+        go : (b : Bool) → liveValue n ws i (nodeOf ws i .value .0) && eqb (getD marks (nodeOf ws i .value .0 - 1) 0) 0 ≡ b
             → cond b (record { passed = true; rest = rest - 1; marks = set marks (nodeOf ws i .value .0 - 1) 1 }) (failed marks) .passed ≡ true
             → Reached n h ws rest marks i above low key right (cond b (record { passed = true; rest = rest - 1; marks = set marks (nodeOf ws i .value .0 - 1) 1 }) (failed marks))
         go false e z = absurd (false≢true z)
@@ -168,20 +155,13 @@ module _ (n : ℕ) (h : Header) (ws : List ℕ) (small : Small ws) where
             record {
               tree = leaf i (nodeOf ws i .key) (nodeOf ws i .value .0);
               at-top = refl;
-              held =
-                  record {
-                    index-some = x .index-some;
-                    index-used = x .index-used;
-                    here = x .here;
-                    rises = x .rises;
-                    value-some = x .value-some;
-                    value-used = x .value-used;
-                  };
-              ordered = content-fits ws i small .key-fits;
+              held = leaf-held h ws i above low node-ok d;
+              clean = λ y e. rw e (node-clean h ws i above low node-ok);
+              ordered = node-fits ws i small .key-fits;
               on-side = side-ok;
               counted = omega (arith, rest-some);
-              fresh = (eqb-true (getD marks (nodeOf ws i .value .0 - 1) 0) 0 (and-r (liveValue (valueRecordOf n ws (nodeOf ws i .value .0))) _ e), tt);
-              live = (live-rules (valueRecordOf n ws (nodeOf ws i .value .0)) (and-l _ (eqb (getD marks (nodeOf ws i .value .0 - 1) 0) 0) e), tt);
+              fresh = (eqb-true (getD marks (nodeOf ws i .value .0 - 1) 0) 0 (and-r (liveValue n ws i (nodeOf ws i .value .0)) _ e), tt);
+              live = (live-rules n ws i (nodeOf ws i .value .0) (and-l _ (eqb (getD marks (nodeOf ws i .value .0 - 1) 0) 0) e), tt);
               marks-are = refl;
             }
 
@@ -194,21 +174,12 @@ module _ (n : ℕ) (h : Header) (ws : List ℕ) (small : Small ws) where
         record {
           tree = inner i (nodeOf ws i .key) (nodeOf ws i .prefix) (a .tree) (b .tree);
           at-top = refl;
-          held =
-              record {
-                index-some = x .index-some;
-                index-used = x .index-used;
-                here = rw (a .at-top, b .at-top) (x .here);
-                rises = x .rises;
-                short = x .short;
-                two = rw (a .at-top, b .at-top) (x .two);
-                on-left = a .held;
-                on-right = b .held;
-              };
+          held = held;
+          clean = clean;
           ordered =
               record {
-                fits = content-fits ws i small .key-fits;
-                low = x .short;
+                fits = node-fits ws i small .key-fits;
+                low = held .short;
                 left = side-down (nodeOf ws i .key) (nodeOf ws i .prefix) false (a .tree) (top-rises-over (a .tree) (a .held)) (a .ordered) (a .on-side (nodeOf ws i .prefix) refl);
                 right = side-down (nodeOf ws i .key) (nodeOf ws i .prefix) true (b .tree) (top-rises-over (b .tree) (b .held)) (b .ordered) (b .on-side (nodeOf ws i .prefix) refl);
                 onLeft = a .ordered;
@@ -221,8 +192,13 @@ module _ (n : ℕ) (h : Header) (ws : List ℕ) (small : Small ws) where
           marks-are = b .marks-are ∙ ap (λ (ms : List ℕ). marked ms (entries (b .tree))) (a .marks-are) ∙ sym (marked-append marks (entries (a .tree)) (entries (b .tree)));
         }
       where
-        x : InnerHere h i above low (nodeOf ws i)
-        x = inner-here h i above low (nodeOf ws i) node-ok z
+        held : Holds h ws above low (inner i (nodeOf ws i .key) (nodeOf ws i .prefix) (a .tree) (b .tree))
+        held = inner-held h ws i above low node-ok z (a .tree) (b .tree) (a .at-top) (b .at-top) (a .held) (b .held)
+
+        clean : (x : ℕ) → In x (inner i (nodeOf ws i .key) (nodeOf ws i .prefix) (a .tree) (b .tree)) → paddingOf ws x ≡ 0
+        clean x (inl e) = rw e (node-clean h ws i above low node-ok)
+        clean x (inr (inl q)) = a .clean x q
+        clean x (inr (inr q)) = b .clean x q
 
         top-rises-over : (t : Tree) → Holds h ws i (nodeOf ws i .prefix + 1) t → nodeOf ws i .prefix < prefixOf t
         top-rises-over t k = omega (arith, top-rises h ws i (nodeOf ws i .prefix + 1) t k)
@@ -233,7 +209,7 @@ module _ (n : ℕ) (h : Header) (ws : List ℕ) (small : Small ws) where
   unfolding walkOf joined
   walk-reaches zero rest marks i above low key right e = absurd (false≢true e)
   walk-reaches (suc fuel) rest marks i above low key right e =
-      by-visit (visitOk h rest i above low key right (nodeOf ws i)) refl
+      by-visit (visitOk h ws rest i above low key right) refl
       (walk-reaches fuel (rest - 1) marks (nodeOf ws i .left .0) i (nodeOf ws i .prefix + 1) (nodeOf ws i .key) false)
       (λ more marked. walk-reaches fuel more marked (nodeOf ws i .right .0) i (nodeOf ws i .prefix + 1) (nodeOf ws i .key) true) e
     where
@@ -253,17 +229,17 @@ module _ (n : ℕ) (h : Header) (ws : List ℕ) (small : Small ws) where
       To : Walk → Type 0
       To w = w .passed ≡ true → Reached n h ws rest marks i above low key right w
 
-      by-left : visitOk h rest i above low key right (nodeOf ws i) ≡ true → nodeOf ws i .value .0 ≡ 0 → OnLeft → OnRight
+      by-left : visitOk h ws rest i above low key right ≡ true → nodeOf ws i .value .0 ≡ 0 → OnLeft → OnRight
           → (b : Bool) → Left .passed ≡ b → To (cond b (Right (Left .rest) (Left .marks)) Left)
       by-left ok z l r false e f = absurd (false≢true (sym e ∙ f))
       by-left ok z l r true e f = inner-reached rest marks i above low key right ok z Left (Right (Left .rest) (Left .marks)) (l e) (r (Left .rest) (Left .marks) f)
 
-      by-kind : visitOk h rest i above low key right (nodeOf ws i) ≡ true → OnLeft → OnRight
-          → (b : Bool) → eqb (nodeOf ws i .value .0) 0 ≡ b → To (cond b (joined Left Right) (leafWalk n ws (rest - 1) marks (nodeOf ws i)))
+      by-kind : visitOk h ws rest i above low key right ≡ true → OnLeft → OnRight
+          → (b : Bool) → eqb (nodeOf ws i .value .0) 0 ≡ b → To (cond b (joined Left Right) (leafWalk n ws (rest - 1) marks i (nodeOf ws i)))
       by-kind ok l r true e = by-left ok (eqb-true (nodeOf ws i .value .0) 0 e) l r (Left .passed) refl
       by-kind ok l r false e = leaf-reached rest marks i above low key right ok (eqb-false (nodeOf ws i .value .0) 0 e)
 
-      by-visit : (b : Bool) → visitOk h rest i above low key right (nodeOf ws i) ≡ b → OnLeft → OnRight
-          → To (cond b (cond (eqb (nodeOf ws i .value .0) 0) (joined Left Right) (leafWalk n ws (rest - 1) marks (nodeOf ws i))) (failed marks))
+      by-visit : (b : Bool) → visitOk h ws rest i above low key right ≡ b → OnLeft → OnRight
+          → To (cond b (cond (eqb (nodeOf ws i .value .0) 0) (joined Left Right) (leafWalk n ws (rest - 1) marks i (nodeOf ws i))) (failed marks))
       by-visit true e l r = by-kind e l r (eqb (nodeOf ws i .value .0) 0) refl
       by-visit false e l r = λ f. absurd (false≢true f)
