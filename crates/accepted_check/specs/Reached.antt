@@ -1,7 +1,8 @@
--- A walk that passes has gone over a tree that the image holds: what a visited node that passes is, and, node by node, the tree.
+-- A walk that passes has gone over a tree that the image holds: what a visited node that passes is, and, node by node, the
+-- tree.
 use mathlib.Core.Path.{_≡_, refl, sym, ap, _∙_}
 use mathlib.Core.List.{List}
-use mathlib.Core.Logic.{_≢_, _⊎_, inl, inr}
+use mathlib.Core.Logic.{_≢_, _⊎_, inl, inr, ⊎-elim}
 use mathlib.Core.Bool.{Bool, true, false, cond, _&&_, false≢true}
 use Prim.Native.Nat.{ℕ, zero, suc, _+_, _-_, _≤_, _<_}
 use native.Mathlib.Omega.{arith}
@@ -17,7 +18,7 @@ use Rattle.inspection.specs.Tests.{isLeaf, isFork, formOk, nodeOk, liveValue}
 use Rattle.inspection.specs.Visit.{passed}
 use Rattle.full_check.specs.Walk.{Walk, failed, visitOk, leafWalk, joined, walkOf}
 use Rattle.lists.specs.Lists.{all-append}
-use Rattle.trees.specs.Tree.{Tree, leaf, inner, top, keyOf, prefixOf, entries, Ordered}
+use Rattle.trees.specs.Tree.{Tree, leaf, inner, top, keyOf, prefixOf, entries, Each, Side, Ordered}
 use Rattle.trees.specs.Nodes.{In}
 use Rattle.trees.specs.Values.{Entry}
 use Rattle.record_views.specs.Small.{Small, node-fits}
@@ -59,11 +60,10 @@ module _ (h : Header) (ws : List ℕ) (i above low : ℕ) (ok : nodeOk h ws i ab
   -- one with a value is a leaf that the image holds
   pub leaf-held : nodeOf ws i .value .0 ≢ 0 → Holds h ws above low (leaf i (nodeOf ws i .key) (nodeOf ws i .value .0))
   unfolding Holds
-  leaf-held d = go kinds
+  leaf-held d = ⊎-elim held (λ (f : isFork x ≡ true). absurd (d (eqb-true (x .value .0) 0 (search and-l)))) kinds
     where
-      go : (isLeaf h (nodeOf ws i) ≡ true) ⊎ (isFork (nodeOf ws i) ≡ true) → Holds h ws above low (leaf i (nodeOf ws i .key) (nodeOf ws i .value .0))
-      go (inr f) = absurd (d (eqb-true (x .value .0) 0 (search and-l)))
-      go (inl f) =
+      held : isLeaf h x ≡ true → Holds h ws above low (leaf i (nodeOf ws i .key) (nodeOf ws i .value .0))
+      held f =
           let no-left : x .left .0 ≡ 0 = eqb-true (x .left .0) 0 (search (and-l, and-r) depth 8) in
           let no-right : x .right .0 ≡ 0 = eqb-true (x .right .0) 0 (search (and-l, and-r) depth 8) in
           let long : x .prefix ≡ 128 = eqb-true (x .prefix) 128 (search (and-l, and-r) depth 8) in
@@ -85,33 +85,33 @@ module _ (h : Header) (ws : List ℕ) (i above low : ℕ) (ok : nodeOk h ws i ab
           }
 
   -- one without is an inner node, over the trees at its children
-  pub inner-held : nodeOf ws i .value .0 ≡ 0 → (l r : Tree) → top l ≡ nodeOf ws i .left .0 → top r ≡ nodeOf ws i .right .0
-      → Holds h ws i (nodeOf ws i .prefix + 1) l → Holds h ws i (nodeOf ws i .prefix + 1) r → Holds h ws above low (inner i (nodeOf ws i .key) (nodeOf ws i .prefix) l r)
-  unfolding Holds
-  inner-held z l r at-left at-right a b = go kinds
-    where
-      go : (isLeaf h (nodeOf ws i) ≡ true) ⊎ (isFork (nodeOf ws i) ≡ true) → Holds h ws above low (inner i (nodeOf ws i .key) (nodeOf ws i .prefix) l r)
-      go (inl f) = absurd (omega (arith, leb-true 1 (x .value .0) (search (and-l, and-r) depth 8)))
-      go (inr f) =
-          let two : x .left .0 ≢ x .right .0 = eqb-false (x .left .0) (x .right .0) (not-true _ (search (and-l, and-r) depth 8)) in
-          record {
-            index-some = used .0;
-            index-used = used .1;
-            here =
-                λ ι. record {
-                  left = record { 0 = sym at-left ι };
-                  right = record { 0 = sym at-right ι };
-                  parent = record { 0 = parent-is ι };
-                  value = record { 0 = z ι };
-                  key = x .key;
-                  prefix = x .prefix;
-                };
-            rises = passed h ws i above low ok .rises;
-            short = ltb-true (x .prefix) 128 (search (and-l, and-r) depth 8);
-            two = λ e. two (sym at-left ∙ e ∙ at-right);
-            on-left = a;
-            on-right = b;
-          }
+  module _ (z : nodeOf ws i .value .0 ≡ 0) (l r : Tree) (at-left : top l ≡ nodeOf ws i .left .0) (at-right : top r ≡ nodeOf ws i .right .0) where
+    pub inner-held : Holds h ws i (nodeOf ws i .prefix + 1) l → Holds h ws i (nodeOf ws i .prefix + 1) r
+        → Holds h ws above low (inner i (nodeOf ws i .key) (nodeOf ws i .prefix) l r)
+    unfolding Holds
+    inner-held a b = ⊎-elim (λ (f : isLeaf h x ≡ true). absurd (omega (arith, leb-true 1 (x .value .0) (search (and-l, and-r) depth 8)))) held kinds
+      where
+        held : isFork x ≡ true → Holds h ws above low (inner i (nodeOf ws i .key) (nodeOf ws i .prefix) l r)
+        held f =
+            let two : eqb (x .left .0) (x .right .0) ≡ false = not-true _ (search (and-l, and-r) depth 8) in
+            record {
+              index-some = used .0;
+              index-used = used .1;
+              here =
+                  λ ι. record {
+                    left = record { 0 = sym at-left ι };
+                    right = record { 0 = sym at-right ι };
+                    parent = record { 0 = parent-is ι };
+                    value = record { 0 = z ι };
+                    key = x .key;
+                    prefix = x .prefix;
+                  };
+              rises = passed h ws i above low ok .rises;
+              short = ltb-true (x .prefix) 128 (search (and-l, and-r) depth 8);
+              two = λ e. eqb-false (x .left .0) (x .right .0) two (sym at-left ∙ e ∙ at-right);
+              on-left = a;
+              on-right = b;
+            }
 
 -- ---- the tree of a walk that passed
 
@@ -129,117 +129,125 @@ pub record Reached (n : ℕ) (h : Header) (ws : List ℕ) (rest : ℕ) (marks : 
   pub marks-are : w .marks ≡ marked marks (entries tree)
 
 module _ (n : ℕ) (h : Header) (ws : List ℕ) (small : Small ws) where
-  module _ (rest : ℕ) (marks : List ℕ) (i above low : ℕ) (key : Key) (right : Bool) (ok : visitOk h ws rest i above low key right ≡ true) where
-    node-ok : nodeOk h ws i above low ≡ true
-    unfolding visitOk
-    node-ok = search and-l
+  -- below node i, on one side
+  abbrev below : ℕ → Bool → ℕ
+  below i right = cond right (nodeOf ws i .right .0) (nodeOf ws i .left .0)
 
-    side-ok : OnSide low key right (nodeOf ws i .key)
-    unfolding visitOk
-    side-ok = side-rules low key right (nodeOf ws i) (search (and-l, and-r))
+  abbrev walkBelow : ℕ → ℕ → List ℕ → ℕ → Bool → Walk
+  walkBelow fuel rest marks i right = walkOf fuel n h ws rest marks (below i right) i (nodeOf ws i .prefix + 1) (nodeOf ws i .key) right
 
-    rest-some : 0 < rest
-    unfolding visitOk
-    rest-some = ltb-true 0 rest (search (and-l, and-r))
+  abbrev ReachedBelow : ℕ → List ℕ → ℕ → Bool → Walk → Type 0
+  ReachedBelow rest marks i right w = Reached n h ws rest marks (below i right) i (nodeOf ws i .prefix + 1) (nodeOf ws i .key) right w
 
-    leaf-reached : nodeOf ws i .value .0 ≢ 0 → leafWalk n ws (rest - 1) marks i (nodeOf ws i) .passed ≡ true
-        → Reached n h ws rest marks i above low key right (leafWalk n ws (rest - 1) marks i (nodeOf ws i))
-    unfolding leafWalk Holds nodesIn
-    leaf-reached d = go (liveValue n ws i (nodeOf ws i .value .0) && eqb (getD marks (nodeOf ws i .value .0 - 1) 0) 0) refl
-      where
-        go : (b : Bool) → liveValue n ws i (nodeOf ws i .value .0) && eqb (getD marks (nodeOf ws i .value .0 - 1) 0) 0 ≡ b
-            → cond b (record { passed = true; rest = rest - 1; marks = set marks (nodeOf ws i .value .0 - 1) 1 }) (failed marks) .passed ≡ true
-            → Reached n h ws rest marks i above low key right (cond b (record { passed = true; rest = rest - 1; marks = set marks (nodeOf ws i .value .0 - 1) 1 }) (failed marks))
-        go false e z = absurd (false≢true z)
-        go true e z =
-            record {
-              tree = leaf i (nodeOf ws i .key) (nodeOf ws i .value .0);
-              at-top = refl;
-              held = leaf-held h ws i above low node-ok d;
-              clean = λ y e. rw e (node-clean h ws i above low node-ok);
-              ordered = node-fits ws i small .key-fits;
-              on-side = side-ok;
-              counted = omega (arith, rest-some);
-              fresh = (eqb-true (getD marks (nodeOf ws i .value .0 - 1) 0) 0 (and-r (liveValue n ws i (nodeOf ws i .value .0)) _ e), tt);
-              live = (live-rules n ws i (nodeOf ws i .value .0) (and-l _ (eqb (getD marks (nodeOf ws i .value .0 - 1) 0) 0) e), tt);
-              marks-are = refl;
-            }
+  module _ (rest : ℕ) (marks : List ℕ) (i above low : ℕ) (key : Key) (right : Bool) where
+    -- leaf i names a live value record that none named before
+    abbrev leafPasses : Bool
+    leafPasses = liveValue n ws i (nodeOf ws i .value .0) && eqb (getD marks (nodeOf ws i .value .0 - 1) 0) 0
 
-    inner-reached : nodeOf ws i .value .0 ≡ 0 → (l r : Walk)
-        → Reached n h ws (rest - 1) marks (nodeOf ws i .left .0) i (nodeOf ws i .prefix + 1) (nodeOf ws i .key) false l
-        → Reached n h ws (l .rest) (l .marks) (nodeOf ws i .right .0) i (nodeOf ws i .prefix + 1) (nodeOf ws i .key) true r
-        → Reached n h ws rest marks i above low key right r
-    unfolding Holds nodesIn
-    inner-reached z l r a b =
-        record {
-          tree = inner i (nodeOf ws i .key) (nodeOf ws i .prefix) (a .tree) (b .tree);
-          at-top = refl;
-          held = held;
-          clean = clean;
-          ordered =
-              record {
-                fits = node-fits ws i small .key-fits;
-                low = held .short;
-                left = side-down (nodeOf ws i .key) (nodeOf ws i .prefix) false (a .tree) (top-rises-over (a .tree) (a .held)) (a .ordered) (a .on-side (nodeOf ws i .prefix) refl);
-                right = side-down (nodeOf ws i .key) (nodeOf ws i .prefix) true (b .tree) (top-rises-over (b .tree) (b .held)) (b .ordered) (b .on-side (nodeOf ws i .prefix) refl);
-                onLeft = a .ordered;
-                onRight = b .ordered;
-              };
-          on-side = side-ok;
-          counted = omega (arith, rest-some, a .counted, b .counted);
-          fresh = fresh-append marks (entries (a .tree)) (entries (b .tree)) (a .fresh) (rw (a .marks-are) at (b .fresh));
-          live = all-append (λ (e : Entry). Live (valueRecordOf n ws (e .1))) (entries (a .tree)) (entries (b .tree)) (a .live) (b .live);
-          marks-are = b .marks-are ∙ ap (λ (ms : List ℕ). marked ms (entries (b .tree))) (a .marks-are) ∙ sym (marked-append marks (entries (a .tree)) (entries (b .tree)));
-        }
-      where
-        held : Holds h ws above low (inner i (nodeOf ws i .key) (nodeOf ws i .prefix) (a .tree) (b .tree))
-        held = inner-held h ws i above low node-ok z (a .tree) (b .tree) (a .at-top) (b .at-top) (a .held) (b .held)
+    abbrev leafEnd : Walk
+    leafEnd = record { passed = true; rest = rest - 1; marks = set marks (nodeOf ws i .value .0 - 1) 1 }
 
-        clean : (x : ℕ) → In x (inner i (nodeOf ws i .key) (nodeOf ws i .prefix) (a .tree) (b .tree)) → paddingOf ws x ≡ 0
-        clean x (inl e) = rw e (node-clean h ws i above low node-ok)
-        clean x (inr (inl q)) = a .clean x q
-        clean x (inr (inr q)) = b .clean x q
+    abbrev To : Walk → Type 0
+    To w = Reached n h ws rest marks i above low key right w
 
-        top-rises-over : (t : Tree) → Holds h ws i (nodeOf ws i .prefix + 1) t → nodeOf ws i .prefix < prefixOf t
-        top-rises-over t k = omega (arith, top-rises h ws i (nodeOf ws i .prefix + 1) t k)
+    module _ (ok : visitOk h ws rest i above low key right ≡ true) where
+      node-ok : nodeOk h ws i above low ≡ true
+      unfolding visitOk
+      node-ok = search and-l
+
+      side-ok : OnSide low key right (nodeOf ws i .key)
+      unfolding visitOk
+      side-ok = side-rules low key right (nodeOf ws i) (search (and-l, and-r))
+
+      rest-some : 0 < rest
+      unfolding visitOk
+      rest-some = ltb-true 0 rest (search (and-l, and-r))
+
+      leaf-reached : nodeOf ws i .value .0 ≢ 0 → leafPasses ≡ true → To leafEnd
+      unfolding nodesIn
+      leaf-reached d e =
+          record {
+            tree = leaf i (nodeOf ws i .key) (nodeOf ws i .value .0);
+            at-top = refl;
+            held = leaf-held h ws i above low node-ok d;
+            clean = λ y q. rw q (node-clean h ws i above low node-ok);
+            ordered = node-fits ws i small .key-fits;
+            on-side = side-ok;
+            counted = omega (arith, rest-some);
+            fresh = (eqb-true (getD marks (nodeOf ws i .value .0 - 1) 0) 0 (search and-r), tt);
+            live = (live-rules n ws i (nodeOf ws i .value .0) (search and-l), tt);
+            marks-are = refl;
+          }
+
+      inner-reached : nodeOf ws i .value .0 ≡ 0 → (l r : Walk) → ReachedBelow (rest - 1) marks i false l → ReachedBelow (l .rest) (l .marks) i true r → To r
+      unfolding Holds nodesIn
+      inner-reached z l r a b =
+          record {
+            tree = inner i (nodeOf ws i .key) (nodeOf ws i .prefix) (a .tree) (b .tree);
+            at-top = refl;
+            held = held;
+            clean = clean;
+            ordered =
+                record {
+                  fits = node-fits ws i small .key-fits;
+                  low = held .short;
+                  left = side false (a .tree) (a .held) (a .ordered) (a .on-side);
+                  right = side true (b .tree) (b .held) (b .ordered) (b .on-side);
+                  onLeft = a .ordered;
+                  onRight = b .ordered;
+                };
+            on-side = side-ok;
+            counted = omega (arith, rest-some, a .counted, b .counted);
+            fresh = fresh-append marks (entries (a .tree)) (entries (b .tree)) (a .fresh) (rw (a .marks-are) at (b .fresh));
+            live = all-append (λ (e : Entry). Live (valueRecordOf n ws (e .1))) (entries (a .tree)) (entries (b .tree)) (a .live) (b .live);
+            marks-are =
+                b .marks-are
+                ∙ ap (λ (ms : List ℕ). marked ms (entries (b .tree))) (a .marks-are)
+                ∙ sym (marked-append marks (entries (a .tree)) (entries (b .tree)));
+          }
+        where
+          held : Holds h ws above low (inner i (nodeOf ws i .key) (nodeOf ws i .prefix) (a .tree) (b .tree))
+          held = inner-held h ws i above low node-ok z (a .tree) (b .tree) (a .at-top) (b .at-top) (a .held) (b .held)
+
+          clean : (x : ℕ) → In x (inner i (nodeOf ws i .key) (nodeOf ws i .prefix) (a .tree) (b .tree)) → paddingOf ws x ≡ 0
+          clean x (inl e) = rw e (node-clean h ws i above low node-ok)
+          clean x (inr (inl q)) = a .clean x q
+          clean x (inr (inr q)) = b .clean x q
+
+          side : (b : Bool) (t : Tree) → Holds h ws i (nodeOf ws i .prefix + 1) t → Ordered t → OnSide (nodeOf ws i .prefix + 1) (nodeOf ws i .key) b (keyOf t)
+              → Each (Side (nodeOf ws i .key) (nodeOf ws i .prefix) b) t
+          side b t k o s =
+              let over : nodeOf ws i .prefix < prefixOf t = omega (arith, top-rises h ws i (nodeOf ws i .prefix + 1) t k) in
+              side-down (nodeOf ws i .key) (nodeOf ws i .prefix) b t over o (s (nodeOf ws i .prefix) refl)
 
   -- A walk that passes has reached a tree.
-  pub walk-reaches : (fuel rest : ℕ) (marks : List ℕ) (i above low : ℕ) (key : Key) (right : Bool) → walkOf fuel n h ws rest marks i above low key right .passed ≡ true
+  pub walk-reaches : (fuel rest : ℕ) (marks : List ℕ) (i above low : ℕ) (key : Key) (right : Bool)
+      → walkOf fuel n h ws rest marks i above low key right .passed ≡ true
       → Reached n h ws rest marks i above low key right (walkOf fuel n h ws rest marks i above low key right)
-  unfolding walkOf joined
-  walk-reaches zero rest marks i above low key right e = absurd (false≢true e)
-  walk-reaches (suc fuel) rest marks i above low key right e =
-      by-visit (visitOk h ws rest i above low key right) refl
-      (walk-reaches fuel (rest - 1) marks (nodeOf ws i .left .0) i (nodeOf ws i .prefix + 1) (nodeOf ws i .key) false)
-      (λ more marked. walk-reaches fuel more marked (nodeOf ws i .right .0) i (nodeOf ws i .prefix + 1) (nodeOf ws i .key) true) e
+  unfolding walkOf joined leafWalk
+  walk-reaches zero rest marks i above low key right = λ f. absurd (false≢true f)
+  walk-reaches (suc fuel) rest marks i above low key right =
+      go (visitOk h ws rest i above low key right) (eqb (nodeOf ws i .value .0) 0) (left .passed) (leafPasses rest marks i above low key right) refl refl refl refl
+      (walk-reaches fuel (rest - 1) marks (below i false) i (nodeOf ws i .prefix + 1) (nodeOf ws i .key) false)
+      (walk-reaches fuel (left .rest) (left .marks) (below i true) i (nodeOf ws i .prefix + 1) (nodeOf ws i .key) true)
     where
-      Left : Walk
-      Left = walkOf fuel n h ws (rest - 1) marks (nodeOf ws i .left .0) i (nodeOf ws i .prefix + 1) (nodeOf ws i .key) false
+      left : Walk
+      left = walkBelow fuel (rest - 1) marks i false
 
-      Right : ℕ → List ℕ → Walk
-      Right more marked = walkOf fuel n h ws more marked (nodeOf ws i .right .0) i (nodeOf ws i .prefix + 1) (nodeOf ws i .key) true
+      behind : Walk
+      behind = walkBelow fuel (left .rest) (left .marks) i true
 
-      OnLeft : Type 0
-      OnLeft = Left .passed ≡ true → Reached n h ws (rest - 1) marks (nodeOf ws i .left .0) i (nodeOf ws i .prefix + 1) (nodeOf ws i .key) false Left
+      goal : Walk → Type 0
+      goal w = w .passed ≡ true → To rest marks i above low key right w
 
-      OnRight : Type 0
-      OnRight = (more : ℕ) (marked : List ℕ) → Right more marked .passed ≡ true
-          → Reached n h ws more marked (nodeOf ws i .right .0) i (nodeOf ws i .prefix + 1) (nodeOf ws i .key) true (Right more marked)
-
-      To : Walk → Type 0
-      To w = w .passed ≡ true → Reached n h ws rest marks i above low key right w
-
-      by-left : visitOk h ws rest i above low key right ≡ true → nodeOf ws i .value .0 ≡ 0 → OnLeft → OnRight
-          → (b : Bool) → Left .passed ≡ b → To (cond b (Right (Left .rest) (Left .marks)) Left)
-      by-left ok z l r false e f = absurd (false≢true (sym e ∙ f))
-      by-left ok z l r true e f = inner-reached rest marks i above low key right ok z Left (Right (Left .rest) (Left .marks)) (l e) (r (Left .rest) (Left .marks) f)
-
-      by-kind : visitOk h ws rest i above low key right ≡ true → OnLeft → OnRight
-          → (b : Bool) → eqb (nodeOf ws i .value .0) 0 ≡ b → To (cond b (joined Left Right) (leafWalk n ws (rest - 1) marks i (nodeOf ws i)))
-      by-kind ok l r true e = by-left ok (eqb-true (nodeOf ws i .value .0) 0 e) l r (Left .passed) refl
-      by-kind ok l r false e = leaf-reached rest marks i above low key right ok (eqb-false (nodeOf ws i .value .0) 0 e)
-
-      by-visit : (b : Bool) → visitOk h ws rest i above low key right ≡ b → OnLeft → OnRight
-          → To (cond b (cond (eqb (nodeOf ws i .value .0) 0) (joined Left Right) (leafWalk n ws (rest - 1) marks i (nodeOf ws i))) (failed marks))
-      by-visit true e l r = by-kind e l r (eqb (nodeOf ws i .value .0) 0) refl
-      by-visit false e l r = λ f. absurd (false≢true f)
+      go : (visited forks on live : Bool) → visitOk h ws rest i above low key right ≡ visited → eqb (nodeOf ws i .value .0) 0 ≡ forks
+          → left .passed ≡ on → leafPasses rest marks i above low key right ≡ live
+          → (left .passed ≡ true → ReachedBelow (rest - 1) marks i false left)
+          → (behind .passed ≡ true → ReachedBelow (left .rest) (left .marks) i true behind)
+          → goal (cond visited (cond forks (cond on behind left) (cond live (leafEnd rest marks i above low key right) (failed marks))) (failed marks))
+      go false forks on live p q r s a b f = absurd (false≢true f)
+      go true true false live p q r s a b f = absurd (false≢true (sym r ∙ f))
+      go true true true live p q r s a b f =
+          inner-reached rest marks i above low key right p (eqb-true (nodeOf ws i .value .0) 0 q) left behind (a r) (b f)
+      go true false on false p q r s a b f = absurd (false≢true f)
+      go true false on true p q r s a b f = leaf-reached rest marks i above low key right p (eqb-false (nodeOf ws i .value .0) 0 q) s
