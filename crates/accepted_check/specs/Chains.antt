@@ -48,13 +48,15 @@ module _ (free : ℕ → Bool) (Free : ℕ → Type 0) (next : ℕ → ℕ) (bum
   unfolding chainOf Chain
   chain-passes pass i [] c = eq-eqb i bump c
   chain-passes pass i (x ∷ xs) c =
-      rw (c .here, le-leb 1 x (c .some), lt-ltb x bump (c .used), pass x (c .some) (c .used) (c .free)) (chain-passes pass (next x) xs (c .rest))
+      rw (c .here, le-leb 1 x (c .some), lt-ltb x bump (c .used), pass x (c .some) (c .used) (c .free))
+      (chain-passes pass (next x) xs (c .rest))
 
 -- ---- both arenas
 
 module _ (h : Header) (ws : List ℕ) where
   pub node-chain-found : nodeChain h ws ≡ true
-      → Found (nodeFree h ws) (λ i. FreeNode h i (nodeOf ws i)) (nodeNext ws) (h .nodes .bump) (freeCount (h .nodes)) (h .nodes .head)
+      → Found (nodeFree h ws) (λ i. FreeNode h i (nodeOf ws i)) (nodeNext ws) (h .nodes .bump)
+      (freeCount (h .nodes)) (h .nodes .head)
   unfolding nodeChain
   node-chain-found = chain-found _ _ _ _ (λ i. free-node-rules h ws i (nodeOf ws i)) (freeCount (h .nodes)) (h .nodes .head)
 
@@ -67,9 +69,11 @@ module _ (h : Header) (ws : List ℕ) where
 
 module _ (n : ℕ) (h : Header) (ws : List ℕ) where
   pub value-chain-found : valueChain n h ws ≡ true
-      → Found (valueFree n h ws) (λ j. FreeValue h j (valueRecordOf n ws j)) (valueNext n ws) (h .values .bump) (freeCount (h .values)) (h .values .head)
+      → Found (valueFree n h ws) (λ j. FreeValue h j (valueRecordOf n ws j)) (valueNext n ws) (h .values .bump)
+      (freeCount (h .values)) (h .values .head)
   unfolding valueChain
-  value-chain-found = chain-found _ _ _ _ (λ j. free-value-rules h j (valueRecordOf n ws j)) (freeCount (h .values)) (h .values .head)
+  value-chain-found =
+      chain-found _ _ _ _ (λ j. free-value-rules h j (valueRecordOf n ws j)) (freeCount (h .values)) (h .values .head)
 
   pub value-chain-passes : (xs : List ℕ) → length xs ≡ freeCount (h .values) → ValueChain n h ws xs → valueChain n h ws ≡ true
   unfolding valueChain

@@ -1,5 +1,5 @@
--- The full check is exact (rule T15): its answer is Yes exactly if the image keeps the rules; an image of the right shape that does not keep them is refused
--- as damaged.
+-- The full check is exact (rule T15): its answer is Yes exactly if the image keeps the rules; an image of the right shape that
+-- does not keep them is refused as damaged.
 use mathlib.Core.Path.{_≡_, refl, sym, ap, _∙_}
 use mathlib.Core.List.{List}
 use mathlib.Core.Logic.{_≢_, _↔_}
@@ -19,15 +19,15 @@ use Rattle.records.specs.declared.Done.the-variants as done
 use Rattle.records.specs.declared.Refusal.the-variants as no
 use Rattle.records.specs.Records.{headerOf, frontOf, spareOf, nodeOf, paddingOf}
 use Rattle.records.specs.Numbers.{zeroKey, refusalNumber, doneNumber}
-use Rattle.inspection.specs.Tests.{shapeOk, headerOk, topOk, rootOk}
+use Rattle.inspection.specs.Tests.{shapeOk, topOk, rootOk}
 use Rattle.inspection.specs.Opening.{openOf, openShaped}
 use Rattle.inspection.specs.Room.{shaped}
 use Rattle.full_check.specs.Walk.{Walk, walkOf}
-use Rattle.full_check.specs.Chains.{nodeChain, valueChain, nodesUnused, valuesUnused}
+use Rattle.full_check.specs.Chains.{nodesUnused, valuesUnused}
 use Rattle.full_check.specs.Check.{unmarked, rootWalk, treeOk, recordsOk, openedCheck, checkShape, checkOf}
 use Rattle.full_check.specs.Promises.{numbers}
-use Rattle.lists.specs.Lists.{All, all-map}
-use Rattle.trees.specs.Tree.{Tree, top, entries}
+use Rattle.lists.specs.Lists.{all-map}
+use Rattle.trees.specs.Tree.{top, entries}
 use Rattle.trees.specs.Paths.{depth-bound}
 use Rattle.trees.specs.Map.{Map, listOf, OrderedMap}
 use Rattle.trees.specs.Values.{Numbered}
@@ -61,7 +61,8 @@ module _ (m n : ℕ) (h : Header) (ws : List ℕ) (rules : HeaderRules m n h) wh
       w : Walk
       w = walkOf 129 n h ws (h .nodes .size) (unmarked m) (h .root .0) 0 0 zeroKey false
 
-      found : eqb (w .rest) 0 ≡ true → Reached n h ws (h .nodes .size) (unmarked m) (h .root .0) 0 0 zeroKey false w → TreeRules n h ws
+      found : eqb (w .rest) 0 ≡ true → Reached n h ws (h .nodes .size) (unmarked m) (h .root .0) 0 0 zeroKey false w
+          → TreeRules n h ws
       found e r =
           record {
             tree = some (r .tree);
@@ -77,9 +78,12 @@ module _ (m n : ℕ) (h : Header) (ws : List ℕ) (rules : HeaderRules m n h) wh
           }
         where
           placed : Placed m (entries (r .tree))
-          placed = all-map (λ e u. (u .0, omega (arith, u .1, rules .values .bump-most))) (entries (r .tree)) (entries-used h ws 0 0 (r .tree) (r .held))
+          placed =
+              all-map (λ e u. (u .0, omega (arith, u .1, rules .values .bump-most))) (entries (r .tree))
+              (entries-used h ws 0 0 (r .tree) (r .held))
 
-      go : (b : Bool) → eqb (h .values .size) 0 ≡ b → cond b true (rootOk h ws && (w .passed && eqb (w .rest) 0)) ≡ true → TreeRules n h ws
+      go : (b : Bool) → eqb (h .values .size) 0 ≡ b → cond b true (rootOk h ws && (w .passed && eqb (w .rest) 0)) ≡ true
+          → TreeRules n h ws
       go true e f =
           record {
             tree = none;
@@ -92,9 +96,11 @@ module _ (m n : ℕ) (h : Header) (ws : List ℕ) (rules : HeaderRules m n h) wh
       go false e f =
           let walked : w .passed && eqb (w .rest) 0 ≡ true = and-r (rootOk h ws) _ f in
           found (and-r (w .passed) _ walked)
-          (walk-reaches n h ws small 129 (h .nodes .size) (unmarked m) (h .root .0) 0 0 zeroKey false (and-l _ (eqb (w .rest) 0) walked))
+          (walk-reaches n h ws small 129 (h .nodes .size) (unmarked m) (h .root .0) 0 0 zeroKey false
+          (and-l _ (eqb (w .rest) 0) walked))
 
-  pub tree-passes : Clean h ws → (t : Map) → HoldsMap h ws t → OrderedMap t → Numbered (listOf t) → LiveAll n ws (listOf t) → treeOk n h ws (unmarked m) ≡ true
+  pub tree-passes : Clean h ws → (t : Map) → HoldsMap h ws t → OrderedMap t → Numbered (listOf t) → LiveAll n ws (listOf t)
+      → treeOk n h ws (unmarked m) ≡ true
   unfolding treeOk rootWalk HoldsMap
   tree-passes clean none k o d l = rw (eq-eqb (h .values .size) 0 k)
   tree-passes clean (some t) k o d l =
@@ -104,10 +110,11 @@ module _ (m n : ℕ) (h : Header) (ws : List ℕ) (rules : HeaderRules m n h) wh
       fresh : Fresh (unmarked m) (entries t)
       fresh = different-fresh m (entries t) (all-map (λ e u. pos-of-ne-zero u) (entries t) (d .nonzero)) (d .different)
 
-      walks : walkOf 129 n h ws (h .nodes .size) (unmarked m) (top t) 0 0 zeroKey false ≡ ends (h .nodes .size) (unmarked m) (nodesIn t) (entries t)
+      walks : walkOf 129 n h ws (h .nodes .size) (unmarked m) (top t) 0 0 zeroKey false
+          ≡ ends (h .nodes .size) (unmarked m) (nodesIn t) (entries t)
       walks =
-          walk-passes n h ws clean 129 (h .nodes .size) (unmarked m) 0 0 zeroKey false t (omega (arith, depth-bound t o)) (omega (arith, k .counted)) (k .held) o
-          (λ p z. absurd (omega arith)) fresh l
+          walk-passes n h ws clean 129 (h .nodes .size) (unmarked m) 0 0 zeroKey false t
+          (omega (arith, depth-bound t o)) (omega (arith, k .counted)) (k .held) o (λ p z. absurd (omega arith)) fresh l
 
       many : h .values .size ≢ 0
       many z = omega (arith, k .counted, rules .node-size, some-nodes t)
@@ -121,7 +128,8 @@ module _ (m n : ℕ) (h : Header) (ws : List ℕ) (rules : HeaderRules m n h) wh
 -- ---- all records
 
 -- the tests of an image's header and records are the rules
-pub records-rules : (m n : ℕ) (ws : List ℕ) → Small ws → shapeOk m n (length ws) ≡ true → topOk m n ws ≡ true → recordsOk m n (headerOf n ws) ws ≡ true → Accepted m n ws
+pub records-rules : (m n : ℕ) (ws : List ℕ) → Small ws → shapeOk m n (length ws) ≡ true → topOk m n ws ≡ true
+    → recordsOk m n (headerOf n ws) ws ≡ true → Accepted m n ws
 unfolding topOk recordsOk nodesUnused valuesUnused
 records-rules m n ws small s e r =
     let h = headerOf n ws in
@@ -129,7 +137,9 @@ records-rules m n ws small s e r =
     let t = tree-rules m n h ws rules small (search (and-l, and-r) depth 8) in
     let a = node-chain-found h ws (search (and-l, and-r) depth 8) in
     let b = value-chain-found n h ws (search (and-l, and-r) depth 8) in
-    let unused : Zeros ws (nodeAt (h .nodes .bump)) (12 * (n + 1 - h .nodes .bump)) = zeros-exact ws _ _ .0 (search (and-l, and-r) depth 8) in
+    let unused : Zeros ws (nodeAt (h .nodes .bump)) (12 * (n + 1 - h .nodes .bump)) =
+    zeros-exact ws _ _ .0 (search (and-l, and-r) depth 8)
+    in
     record {
       shape = shaped m n (length ws) s;
       words = small;
@@ -157,12 +167,13 @@ records-rules m n ws small s e r =
 pub records-pass : (m n : ℕ) (ws : List ℕ) → Accepted m n ws → recordsOk m n (headerOf n ws) ws ≡ true
 unfolding recordsOk nodesUnused valuesUnused
 records-pass m n ws a =
+    let h = headerOf n ws in
     rw (
-      tree-passes m n (headerOf n ws) ws (a .header) (accepted-clean a) (a .tree) (a .holds) (a .ordered) (a .different) (a .live),
-      node-chain-passes (headerOf n ws) ws (accepted-clean a) (a .free-nodes) (a .node-count) (a .node-chain),
-      value-chain-passes n (headerOf n ws) ws (a .free-values) (a .value-count) (a .value-chain),
-      zeros-exact ws (nodeAt (headerOf n ws .nodes .bump)) (12 * (n + 1 - headerOf n ws .nodes .bump)) .1 (a .nodes-unused),
-      zeros-exact ws (valueAt n (headerOf n ws .values .bump)) (8 * (m + 1 - headerOf n ws .values .bump)) .1 (a .values-unused),
+      tree-passes m n h ws (a .header) (accepted-clean a) (a .tree) (a .holds) (a .ordered) (a .different) (a .live),
+      node-chain-passes h ws (accepted-clean a) (a .free-nodes) (a .node-count) (a .node-chain),
+      value-chain-passes n h ws (a .free-values) (a .value-count) (a .value-chain),
+      zeros-exact ws (nodeAt (h .nodes .bump)) (12 * (n + 1 - h .nodes .bump)) .1 (a .nodes-unused),
+      zeros-exact ws (valueAt n (h .values .bump)) (8 * (m + 1 - h .values .bump)) .1 (a .values-unused),
     )
 
 -- ---- the check
@@ -170,7 +181,8 @@ records-pass m n ws a =
 -- It accepts every image that keeps the rules, where the scratch has a word for each value record.
 pub check-complete : (m n : ℕ) (ws scratch : List ℕ) → Accepted m n ws → m ≤ length scratch → checkOf m n ws scratch ≡ done.Yes
 unfolding checkOf checkShape openedCheck
-check-complete m n ws scratch a l = rw (shape-passes (a .shape), le-leb m (length scratch) l, accepted-opens a, records-pass m n ws a)
+check-complete m n ws scratch a l =
+    rw (shape-passes (a .shape), le-leb m (length scratch) l, accepted-opens a, records-pass m n ws a)
 
 -- It accepts no other image.
 pub check-sound : (m n : ℕ) (ws scratch : List ℕ) → Small ws → checkOf m n ws scratch ≡ done.Yes → Accepted m n ws
@@ -184,7 +196,8 @@ pub record Exact (m n : ℕ) (ws scratch : List ℕ) : Type 0 where
   pub yes-exactly : (checkOf m n ws scratch ≡ done.Yes) ↔ Accepted m n ws
   pub damaged-exactly : (checkOf m n ws scratch ≡ done.Refused no.Damaged) ↔ (Accepted m n ws → ⊥)
 
-pub check-exact : (m n : ℕ) (ws scratch : List ℕ) → Small ws → shapeOk m n (length ws) ≡ true → m ≤ length scratch → Exact m n ws scratch
+pub check-exact : (m n : ℕ) (ws scratch : List ℕ) → Small ws → shapeOk m n (length ws) ≡ true → m ≤ length scratch
+    → Exact m n ws scratch
 unfolding doneNumber refusalNumber checkOf checkShape openOf openShaped openedCheck
 check-exact m n ws scratch small s l =
     record {
@@ -195,7 +208,8 @@ check-exact m n ws scratch small s l =
       );
     }
   where
-    refuses : (Accepted m n ws → ⊥) → (a b : Bool) → topOk m n ws ≡ a → recordsOk m n (headerOf n ws) ws ≡ b → checkOf m n ws scratch ≡ done.Refused no.Damaged
+    refuses : (Accepted m n ws → ⊥) → (a b : Bool) → topOk m n ws ≡ a → recordsOk m n (headerOf n ws) ws ≡ b
+        → checkOf m n ws scratch ≡ done.Refused no.Damaged
     refuses never true true p q = absurd (never (records-rules m n ws small s p q))
     refuses never true false p q = simp (s, le-leb m (length scratch) l, p, q)
     refuses never false b p q = simp (s, le-leb m (length scratch) l, p)

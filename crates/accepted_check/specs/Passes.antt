@@ -41,8 +41,8 @@ module _ (n : ℕ) (h : Header) (ws : List ℕ) (clean : Clean h ws) where
   top-key parent low (leaf i key v) k = rw (k .here)
   top-key parent low (inner i key p l r) k = rw (k .here)
 
-  visit-passes : (rest parent low : ℕ) (key : Key) (right : Bool) (t : Tree) → Holds h ws parent low t → OnSide low key right (keyOf t) → 0 < rest
-      → visitOk h ws rest (top t) parent low key right ≡ true
+  visit-passes : (rest parent low : ℕ) (key : Key) (right : Bool) (t : Tree) → Holds h ws parent low t
+      → OnSide low key right (keyOf t) → 0 < rest → visitOk h ws rest (top t) parent low key right ≡ true
   unfolding visitOk
   visit-passes rest parent low key right t k s some =
       rw (
@@ -52,13 +52,15 @@ module _ (n : ℕ) (h : Header) (ws : List ℕ) (clean : Clean h ws) where
       )
 
   -- a child's key is on its side of the node above
-  below-side : (i : ℕ) (a : Key) (p : ℕ) (b : Bool) (t : Tree) → Holds h ws i (p + 1) t → Ordered t → Each (Side a p b) t → OnSide (p + 1) a b (keyOf t)
+  below-side : (i : ℕ) (a : Key) (p : ℕ) (b : Bool) (t : Tree) → Holds h ws i (p + 1) t → Ordered t → Each (Side a p b) t
+      → OnSide (p + 1) a b (keyOf t)
   below-side i a p b t k o s q z =
       let e : p ≡ q = omega arith in
       rw (← e) (side-up a p b t (omega (arith, top-rises h ws i (p + 1) t k)) o s)
 
   pub walk-passes : (fuel rest : ℕ) (marks : List ℕ) (parent low : ℕ) (key : Key) (right : Bool) (t : Tree)
-      → depth t ≤ fuel → nodesIn t ≤ rest → Holds h ws parent low t → Ordered t → OnSide low key right (keyOf t) → Fresh marks (entries t) → LiveAll n ws (entries t)
+      → depth t ≤ fuel → nodesIn t ≤ rest → Holds h ws parent low t → Ordered t → OnSide low key right (keyOf t)
+      → Fresh marks (entries t) → LiveAll n ws (entries t)
       → walkOf fuel n h ws rest marks (top t) parent low key right ≡ ends rest marks (nodesIn t) (entries t)
   unfolding walkOf leafWalk joined Holds nodesIn
   walk-passes zero rest marks parent low key right (leaf i a v) d c k o s f live = absurd (omega arith)
@@ -75,8 +77,8 @@ module _ (n : ℕ) (h : Header) (ws : List ℕ) (clean : Clean h ws) where
       go
       (walk-passes fuel (rest - 1) marks i (p + 1) a false l (omega arith) (omega arith) (k .on-left) (o .onLeft)
       (below-side i a p false l (k .on-left) (o .onLeft) (o .left)) (fresh .0) (lives .0))
-      (walk-passes fuel (rest - 1 - nodesIn l) (marked marks (entries l)) i (p + 1) a true r (omega arith) (omega arith) (k .on-right) (o .onRight)
-      (below-side i a p true r (k .on-right) (o .onRight) (o .right)) (fresh .1) (lives .1))
+      (walk-passes fuel (rest - 1 - nodesIn l) (marked marks (entries l)) i (p + 1) a true r (omega arith) (omega arith)
+      (k .on-right) (o .onRight) (below-side i a p true r (k .on-right) (o .onRight) (o .right)) (fresh .1) (lives .1))
     where
       fresh : Fresh marks (entries l) × Fresh (marked marks (entries l)) (entries r)
       fresh = fresh-parts marks (entries l) (entries r) f
@@ -93,5 +95,8 @@ module _ (n : ℕ) (h : Header) (ws : List ℕ) (clean : Clean h ws) where
       go : walkOf fuel n h ws (rest - 1) marks (top l) i (p + 1) a false ≡ ends (rest - 1) marks (nodesIn l) (entries l)
           → walkOf fuel n h ws (rest - 1 - nodesIn l) (marked marks (entries l)) (top r) i (p + 1) a true
           ≡ ends (rest - 1 - nodesIn l) (marked marks (entries l)) (nodesIn r) (entries r)
-          → walkOf (suc fuel) n h ws rest marks i parent low key right ≡ ends rest marks (nodesIn l + nodesIn r + 1) (entries l ++ entries r)
-      go x y = rw (visit-passes rest parent low key right (inner i a p l r) k s (omega arith), k .here, x, y) (λ ι. record { passed = true; rest = count ι; marks = marks-are ι })
+          → walkOf (suc fuel) n h ws rest marks i parent low key right
+          ≡ ends rest marks (nodesIn l + nodesIn r + 1) (entries l ++ entries r)
+      go x y =
+          rw (visit-passes rest parent low key right (inner i a p l r) k s (omega arith), k .here, x, y)
+          (λ ι. record { passed = true; rest = count ι; marks = marks-are ι })

@@ -85,11 +85,13 @@ module _ (h : Header) (ws : List ℕ) (i above low : ℕ) (ok : nodeOk h ws i ab
           }
 
   -- one without is an inner node, over the trees at its children
-  module _ (z : nodeOf ws i .value .0 ≡ 0) (l r : Tree) (at-left : top l ≡ nodeOf ws i .left .0) (at-right : top r ≡ nodeOf ws i .right .0) where
+  module _ (z : nodeOf ws i .value .0 ≡ 0) (l r : Tree)
+      (at-left : top l ≡ nodeOf ws i .left .0) (at-right : top r ≡ nodeOf ws i .right .0) where
     pub inner-held : Holds h ws i (nodeOf ws i .prefix + 1) l → Holds h ws i (nodeOf ws i .prefix + 1) r
         → Holds h ws above low (inner i (nodeOf ws i .key) (nodeOf ws i .prefix) l r)
     unfolding Holds
-    inner-held a b = ⊎-elim (λ (f : isLeaf h x ≡ true). absurd (omega (arith, leb-true 1 (x .value .0) (search (and-l, and-r) depth 8)))) held kinds
+    inner-held a b =
+        ⊎-elim (λ (f : isLeaf h x ≡ true). absurd (omega (arith, leb-true 1 (x .value .0) (search (and-l, and-r) depth 8)))) held kinds
       where
         held : isFork x ≡ true → Holds h ws above low (inner i (nodeOf ws i .key) (nodeOf ws i .prefix) l r)
         held f =
@@ -116,7 +118,8 @@ module _ (h : Header) (ws : List ℕ) (i above low : ℕ) (ok : nodeOk h ws i ab
 -- ---- the tree of a walk that passed
 
 -- the walk began at node i with so many nodes to reach and these marks, and came to w
-pub record Reached (n : ℕ) (h : Header) (ws : List ℕ) (rest : ℕ) (marks : List ℕ) (i above low : ℕ) (key : Key) (right : Bool) (w : Walk) : Type 0 where
+pub record Reached (n : ℕ) (h : Header) (ws : List ℕ) (rest : ℕ) (marks : List ℕ) (i above low : ℕ) (key : Key) (right : Bool)
+    (w : Walk) : Type 0 where
   pub tree : Tree
   pub at-top : top tree ≡ i
   pub held : Holds h ws above low tree
@@ -139,14 +142,14 @@ module _ (n : ℕ) (h : Header) (ws : List ℕ) (small : Small ws) where
   abbrev ReachedBelow : ℕ → List ℕ → ℕ → Bool → Walk → Type 0
   ReachedBelow rest marks i right w = Reached n h ws rest marks (below i right) i (nodeOf ws i .prefix + 1) (nodeOf ws i .key) right w
 
+  -- leaf i names a live value record that none named before, and marks it
+  abbrev leafPasses : List ℕ → ℕ → Bool
+  leafPasses marks i = liveValue n ws i (nodeOf ws i .value .0) && eqb (getD marks (nodeOf ws i .value .0 - 1) 0) 0
+
+  abbrev leafEnd : ℕ → List ℕ → ℕ → Walk
+  leafEnd rest marks i = record { passed = true; rest = rest - 1; marks = set marks (nodeOf ws i .value .0 - 1) 1 }
+
   module _ (rest : ℕ) (marks : List ℕ) (i above low : ℕ) (key : Key) (right : Bool) where
-    -- leaf i names a live value record that none named before
-    abbrev leafPasses : Bool
-    leafPasses = liveValue n ws i (nodeOf ws i .value .0) && eqb (getD marks (nodeOf ws i .value .0 - 1) 0) 0
-
-    abbrev leafEnd : Walk
-    leafEnd = record { passed = true; rest = rest - 1; marks = set marks (nodeOf ws i .value .0 - 1) 1 }
-
     abbrev To : Walk → Type 0
     To w = Reached n h ws rest marks i above low key right w
 
@@ -163,7 +166,7 @@ module _ (n : ℕ) (h : Header) (ws : List ℕ) (small : Small ws) where
       unfolding visitOk
       rest-some = ltb-true 0 rest (search (and-l, and-r))
 
-      leaf-reached : nodeOf ws i .value .0 ≢ 0 → leafPasses ≡ true → To leafEnd
+      leaf-reached : nodeOf ws i .value .0 ≢ 0 → leafPasses marks i ≡ true → To (leafEnd rest marks i)
       unfolding nodesIn
       leaf-reached d e =
           record {
@@ -179,7 +182,8 @@ module _ (n : ℕ) (h : Header) (ws : List ℕ) (small : Small ws) where
             marks-are = refl;
           }
 
-      inner-reached : nodeOf ws i .value .0 ≡ 0 → (l r : Walk) → ReachedBelow (rest - 1) marks i false l → ReachedBelow (l .rest) (l .marks) i true r → To r
+      inner-reached : nodeOf ws i .value .0 ≡ 0 → (l r : Walk) → ReachedBelow (rest - 1) marks i false l
+          → ReachedBelow (l .rest) (l .marks) i true r → To r
       unfolding Holds nodesIn
       inner-reached z l r a b =
           record {
@@ -214,8 +218,8 @@ module _ (n : ℕ) (h : Header) (ws : List ℕ) (small : Small ws) where
           clean x (inr (inl q)) = a .clean x q
           clean x (inr (inr q)) = b .clean x q
 
-          side : (b : Bool) (t : Tree) → Holds h ws i (nodeOf ws i .prefix + 1) t → Ordered t → OnSide (nodeOf ws i .prefix + 1) (nodeOf ws i .key) b (keyOf t)
-              → Each (Side (nodeOf ws i .key) (nodeOf ws i .prefix) b) t
+          side : (b : Bool) (t : Tree) → Holds h ws i (nodeOf ws i .prefix + 1) t → Ordered t
+              → OnSide (nodeOf ws i .prefix + 1) (nodeOf ws i .key) b (keyOf t) → Each (Side (nodeOf ws i .key) (nodeOf ws i .prefix) b) t
           side b t k o s =
               let over : nodeOf ws i .prefix < prefixOf t = omega (arith, top-rises h ws i (nodeOf ws i .prefix + 1) t k) in
               side-down (nodeOf ws i .key) (nodeOf ws i .prefix) b t over o (s (nodeOf ws i .prefix) refl)
@@ -227,7 +231,8 @@ module _ (n : ℕ) (h : Header) (ws : List ℕ) (small : Small ws) where
   unfolding walkOf joined leafWalk
   walk-reaches zero rest marks i above low key right = λ f. absurd (false≢true f)
   walk-reaches (suc fuel) rest marks i above low key right =
-      go (visitOk h ws rest i above low key right) (eqb (nodeOf ws i .value .0) 0) (left .passed) (leafPasses rest marks i above low key right) refl refl refl refl
+      go (visitOk h ws rest i above low key right) (eqb (nodeOf ws i .value .0) 0) (left .passed) (leafPasses marks i)
+      refl refl refl refl
       (walk-reaches fuel (rest - 1) marks (below i false) i (nodeOf ws i .prefix + 1) (nodeOf ws i .key) false)
       (walk-reaches fuel (left .rest) (left .marks) (below i true) i (nodeOf ws i .prefix + 1) (nodeOf ws i .key) true)
     where
@@ -241,10 +246,10 @@ module _ (n : ℕ) (h : Header) (ws : List ℕ) (small : Small ws) where
       goal w = w .passed ≡ true → To rest marks i above low key right w
 
       go : (visited forks on live : Bool) → visitOk h ws rest i above low key right ≡ visited → eqb (nodeOf ws i .value .0) 0 ≡ forks
-          → left .passed ≡ on → leafPasses rest marks i above low key right ≡ live
+          → left .passed ≡ on → leafPasses marks i ≡ live
           → (left .passed ≡ true → ReachedBelow (rest - 1) marks i false left)
           → (behind .passed ≡ true → ReachedBelow (left .rest) (left .marks) i true behind)
-          → goal (cond visited (cond forks (cond on behind left) (cond live (leafEnd rest marks i above low key right) (failed marks))) (failed marks))
+          → goal (cond visited (cond forks (cond on behind left) (cond live (leafEnd rest marks i) (failed marks))) (failed marks))
       go false forks on live p q r s a b f = absurd (false≢true f)
       go true true false live p q r s a b f = absurd (false≢true (sym r ∙ f))
       go true true true live p q r s a b f =
