@@ -1,51 +1,48 @@
 -- On an accepted image get, contains, get_addr, smallest, largest, length and capacity answer as its ascending list of keys and values does, refusals included. Refusal 2 does not arise.
 use mathlib.Core.Path.{_≡_, refl, sym, ap, _∙_}
 use mathlib.Core.List.{List, [], _∷_, map}
-use mathlib.Core.Logic.{_≢_, _⊎_, inl, inr}
+use mathlib.Core.Logic.{_≢_}
 use mathlib.Core.Bool.{Bool, true, false}
 use mathlib.Core.Option.{Option, none, some, Option·map}
-use Prim.Native.Nat.{ℕ, _+_, _-_, _*_, _≤_, _<_, min}
+use Prim.Native.Nat.{ℕ, _+_, _-_, _*_, _≤_}
 use native.Mathlib.Omega.{arith}
 use lib.ListN.{length, length-append, length-map}
-use lib.Dec.{eqb}
 use borrow.Author.Tests.{ne-eqb, eq-eqb}
 use Rattle.keys.specs.declared.Key.{Key}
 use Rattle.records.specs.declared.Header.{Header}
 use Rattle.records.specs.declared.NodeIndex.{NodeIndex}
 use Rattle.records.specs.declared.Node.{Node}
 use Rattle.records.specs.declared.Value.{Value}
-use Rattle.inspection.specs.declared.Opened.the-variants.{Good, Shut}
 use Rattle.records.specs.declared.Refusal.the-variants as no
 use Rattle.records.specs.declared.Place.{Place}
 use Rattle.records.specs.declared.Place.the-variants as place
 use Rattle.records.specs.declared.Count.the-variants as count
 use Rattle.records.specs.Records.{headerOf, nodeOf, valueRecordOf}
-use Rattle.inspection.specs.Tests.{liveValue}
-use Rattle.inspection.specs.Opening.{openOf}
+use Rattle.inspection.specs.declared.Live.the-variants as live
+use Rattle.inspection.specs.Visit.{liveOf}
 use Rattle.descent.specs.declared.Stop.{Stop}
 use Rattle.descent.specs.declared.Stop.the-variants as stop
-use Rattle.descent.specs.declared.Step.{Step}
-use Rattle.descent.specs.Descent.{lookupTurn, reachTurn, endTurn, descend, fromRoot, findOf, reachOf}
-use Rattle.descent.specs.Descent as descent
+use Rattle.descent.specs.declared.Turn.{Turn}
+use Rattle.descent.specs.Descent.{lookupTurn, endTurn, descend, fromRoot, findOf}
 use Rattle.lookup.specs.declared.Target.{Target}
 use Rattle.lookup.specs.declared.Target.the-variants.{At, No}
-use Rattle.lookup.specs.Start.{lengthOf, openedLength, capacityOf, openedCapacity}
-use Rattle.lookup.specs.Get.{leafTarget, stopTarget, openedTarget, targetOf, targetGot, getOf, stopDone, openedDone, containsOf, stopPlace, openedPlace, addrOf}
+use Rattle.lookup.specs.Start.{lengthOf, openedLength, capacityReply, openedCapacity}
+use Rattle.lookup.specs.Get.{liveTarget, stopTarget, openedTarget, targetOf, targetGot, getOf, stopDone, openedDone, containsOf, stopPlace, openedPlace, addrOf}
 use Rattle.lookup.specs.Ends.{targetEntry, openedEntry, endEntry}
 use Rattle.lists.specs.Lists.{All, pairs-mapped}
 use Rattle.lists.specs.Entries.{listEnd, Before, Rising, find, held, is-some, held-found, find-all, find-map}
 use Rattle.lists.specs.Answers.{gotFrom, doneFrom, entryFrom}
 use Rattle.trees.specs.Ends.{all-end}
 use Rattle.trees.specs.Tree.{Tree, leaf, inner, top, entries, Ordered}
-use Rattle.trees.specs.Lookup.{lookup, reach, valueOf, reach-find, outermost, outermost-entry}
-use Rattle.trees.specs.Map.{Map, listOf, lookupIn, reachIn, OrderedMap, map-lookup}
+use Rattle.trees.specs.Lookup.{lookup, valueOf, outermost, outermost-entry}
+use Rattle.trees.specs.Map.{Map, listOf, lookupIn, OrderedMap, map-lookup}
 use Rattle.trees.specs.Paths.{depth, depth-bound}
 use Rattle.trees.specs.Changes.{target}
-use Rattle.accepted.specs.Rules.{HeaderRules, Holds, Live}
+use Rattle.accepted.specs.Rules.{Holds, Live}
 use Rattle.accepted.specs.Accepted.{Accepted, HoldsMap, nodesIn, valueAtRecord}
-use Rattle.accepted.specs.Tests.{opened, live-passes}
-use Rattle.accepted.specs.Held.{RootRule, root-rule}
-use Rattle.accepted_lookup.specs.Descents.{at, stopFrom, landed, find-held, reach-held, end-held, end-key}
+use Rattle.accepted.specs.Tests.{live-passes}
+use Rattle.accepted.specs.Held.{root-passes, accepted-clean, accepted-opens}
+use Rattle.accepted_lookup.specs.Descents.{at, found-value, stopFrom, landed, outermost-landed, landed-node, Sided, end-sided, find-held, sides-held}
 
 -- ---- the ascending list of keys and values
 
@@ -112,61 +109,52 @@ module _ {m n : ℕ} {ws : List ℕ} (a : Accepted m n ws) where
       go (leaf i key v) e = omega (arith, a .header .node-size)
       go (inner i key p l r) e = omega (arith, a .header .node-size)
 
-  -- any descent from the root is the descent at the tree's top
-  pub from-root : (turn : NodeIndex → Node → Step) (t : Tree) → HoldsMap (headerOf n ws) ws (some t)
+  held-of : (t : Tree) → HoldsMap (headerOf n ws) ws (some t) → Holds (headerOf n ws) ws 0 0 t
+  unfolding HoldsMap
+  held-of t k = k .held
+
+  -- any descent from the root is the descent at the tree's top, by the root's rule
+  pub from-root : (turn : NodeIndex → Node → Turn) (t : Tree) → HoldsMap (headerOf n ws) ws (some t)
       → fromRoot turn (headerOf n ws) ws ≡ descend turn 129 (headerOf n ws) ws (at (top t)) (at 0) 0
   unfolding fromRoot HoldsMap
   from-root turn t k =
       let root : headerOf n ws .root ≡ at (top t) = λ ι. record { 0 = sym (k .at-root) ι } in
-      rw (ne-eqb (headerOf n ws .values .size) 0 (size-some t k), root)
+      rw (ne-eqb (headerOf n ws .values .size) 0 (size-some t k), root-passes m n (headerOf n ws) ws t (a .header) (k .at-root) (k .counted) (k .held), root)
 
-  from-none : (turn : NodeIndex → Node → Step) → HoldsMap (headerOf n ws) ws none → fromRoot turn (headerOf n ws) ws ≡ stop.Parted (at 0)
+  from-none : (turn : NodeIndex → Node → Turn) → HoldsMap (headerOf n ws) ws none → fromRoot turn (headerOf n ws) ws ≡ stop.Empty
   unfolding fromRoot HoldsMap
   from-none turn z = rw (eq-eqb (headerOf n ws .values .size) 0 z)
 
   short : (t : Tree) → Ordered t → depth t ≤ 129
   short t o = omega (arith, depth-bound t o)
 
-  -- where the key parts from the map
-  abbrev pub parting : Key → Map → ℕ
-  parting key none = 0
-  parting key (some t) = top (target key t)
+  -- where lookup stops in the map
+  abbrev pub stopIn : Key → Map → Stop
+  stopIn key none = stop.Empty
+  stopIn key (some t) = stopFrom ws key (target key t) (lookup key t)
 
-  abbrev pub landing : Key → Map → ℕ
-  landing key none = 0
-  landing key (some t) = landed key t
-
-  held-of : (t : Tree) → HoldsMap (headerOf n ws) ws (some t) → Holds (headerOf n ws) ws 0 0 t
-  unfolding HoldsMap
-  held-of t k = k .held
-
-  counted-of : (t : Tree) → HoldsMap (headerOf n ws) ws (some t) → nodesIn t ≡ headerOf n ws .nodes .size
-  unfolding HoldsMap
-  counted-of t k = k .counted
-
-  pub find-tree : (key : Key) (t : Map) → HoldsMap (headerOf n ws) ws t → OrderedMap t → findOf (headerOf n ws) ws key ≡ stopFrom (lookupIn key t) (parting key t)
-  unfolding stopFrom
+  pub find-tree : (key : Key) (t : Map) → HoldsMap (headerOf n ws) ws t → OrderedMap t → findOf (headerOf n ws) ws key ≡ stopIn key t
   find-tree key none k o = from-none (lookupTurn key) k
   find-tree key (some t) k o =
-      from-root (lookupTurn key) t k
-      ∙ find-held (headerOf n ws) ws key 129 0 0 t (short t o) (held-of t k) (λ z. root-rule m n (headerOf n ws) t (a .header) (counted-of t k))
+      from-root (lookupTurn key) t k ∙ find-held (headerOf n ws) ws (accepted-clean a) key 129 0 0 t (short t o) (held-of t k)
 
-  pub reach-tree : (key : Key) (t : Map) → HoldsMap (headerOf n ws) ws t → OrderedMap t → reachOf (headerOf n ws) ws key ≡ stopFrom (reachIn key t) (landing key t)
-  unfolding stopFrom
-  reach-tree key none k o = from-none (reachTurn key) k
-  reach-tree key (some t) k o =
-      from-root (reachTurn key) t k
-      ∙ reach-held (headerOf n ws) ws key 129 0 0 t (short t o) (held-of t k) (λ z. root-rule m n (headerOf n ws) t (a .header) (counted-of t k))
+  -- and where a descent by sides does
+  abbrev pub landedIn : (ℕ → Bool) → Map → Stop
+  landedIn side none = stop.Empty
+  landedIn side (some t) = stop.Leaf (at (landed side t .1 .0)) (nodeOf ws (landed side t .1 .0))
 
-  image-opened : openOf m n ws ≡ Good (headerOf n ws)
-  image-opened = opened m n ws (a .shape) (a .header)
+  pub sides-tree : (turn : NodeIndex → Node → Turn) (side : ℕ → Bool) → Sided side turn → (t : Map) → HoldsMap (headerOf n ws) ws t → OrderedMap t
+      → fromRoot turn (headerOf n ws) ws ≡ landedIn side t
+  sides-tree turn side s none k o = from-none turn k
+  sides-tree turn side s (some t) k o =
+      from-root turn t k ∙ sides-held (headerOf n ws) ws (accepted-clean a) turn side s 129 0 0 t (short t o) (held-of t k)
 
   -- ---- get and the value write's target
 
   -- the target of a key is its leaf and its value, or it is absent
   abbrev pub targetFrom : Option (ℕ × ℕ) → Target
   targetFrom none = No no.Absent
-  targetFrom (some e) = At (record { 0 = e .0 }) (record { 0 = e .1 }) (valueAtRecord n ws (e .1))
+  targetFrom (some e) = At (at (e .0)) (nodeOf ws (e .0)) (valueAtRecord n ws (e .1))
 
   pub value-found : (key : Key) → valueOf (lookupIn key (a .tree)) ≡ find key (listOf (a .tree))
   value-found key = map-lookup key (a .tree) (a .ordered) .0
@@ -178,14 +166,31 @@ module _ {m n : ℕ} {ws : List ℕ} (a : Accepted m n ws) where
   alive : (key : Key) (e : ℕ × ℕ) → lookupIn key (a .tree) ≡ some e → Live (valueRecordOf n ws (e .1))
   alive key e q = find-all (λ v. Live (valueRecordOf n ws v)) key (listOf (a .tree)) (e .1) (a .live) (sym (value-found key) ∙ ap valueOf q)
 
-  pub target-agrees : (key : Key) → targetOf m n ws key ≡ targetFrom (lookupIn key (a .tree))
-  unfolding targetOf openedTarget stopTarget leafTarget stopFrom
-  target-agrees key =
-      rw (image-opened, find-tree key (a .tree) (a .holds) (a .ordered)) (go (lookupIn key (a .tree)) refl)
+  -- the node of a key's leaf names its value record
+  pub target-value : (key : Key) (e : ℕ × ℕ) → lookupIn key (a .tree) ≡ some e → nodeOf ws (e .0) .value .0 ≡ e .1
+  target-value key e q = in-map (a .tree) (a .holds) q
     where
-      go : (r : Option (ℕ × ℕ)) → lookupIn key (a .tree) ≡ r → stopTarget n ws (stopFrom r (parting key (a .tree))) ≡ targetFrom r
-      go none q = refl
-      go (some e) q = rw (live-passes (valueRecordOf n ws (e .1)) (alive key e q))
+      in-map : (t : Map) → HoldsMap (headerOf n ws) ws t → lookupIn key t ≡ some e → nodeOf ws (e .0) .value .0 ≡ e .1
+      in-map none k q = let z : _≡_ {A = ℕ} 0 1 = cc in absurd (omega arith)
+      in-map (some t) k q = found-value (headerOf n ws) ws key 0 0 t (held-of t k) e q
+
+  -- a live value record holds its value
+  live-held : (i j : ℕ) → Live (valueRecordOf n ws j) → liveOf n ws i j ≡ live.Holds (valueAtRecord n ws j)
+  unfolding liveOf
+  live-held i j l = rw (live-passes n ws i j l)
+
+  pub target-agrees : (key : Key) → targetOf m n ws key ≡ targetFrom (lookupIn key (a .tree))
+  unfolding targetOf openedTarget stopTarget liveTarget stopFrom
+  target-agrees key = rw (accepted-opens a, find-tree key (a .tree) (a .holds) (a .ordered)) (in-map (a .tree) (λ e q. (target-value key e q, alive key e q)))
+    where
+      in-map : (t : Map) → ((e : ℕ × ℕ) → lookupIn key t ≡ some e → (nodeOf ws (e .0) .value .0 ≡ e .1) × Live (valueRecordOf n ws (e .1)))
+          → stopTarget n ws (stopIn key t) ≡ targetFrom (lookupIn key t)
+      in-map none l = refl
+      in-map (some t) l = go (lookup key t) refl
+        where
+          go : (r : Option (ℕ × ℕ)) → lookup key t ≡ r → stopTarget n ws (stopFrom ws key (target key t) r) ≡ targetFrom r
+          go none q = refl
+          go (some e) q = rw (l e q .0, live-held (e .0) (e .1) (l e q .1))
 
   pub get-agrees : (key : Key) → getOf m n ws key ≡ gotFrom (find key (listed a))
   unfolding getOf targetGot
@@ -203,21 +208,28 @@ module _ {m n : ℕ} {ws : List ℕ} (a : Accepted m n ws) where
   pub contains-agrees : (key : Key) → containsOf m n ws key ≡ doneFrom (held key (listed a))
   unfolding containsOf openedDone stopDone stopFrom
   contains-agrees key =
-      rw (image-opened, find-tree key (a .tree) (a .holds) (a .ordered)) (go (lookupIn key (a .tree)))
-      ∙ ap (λ (b : Bool). doneFrom b) (sym (held-listed key))
+      rw (accepted-opens a, find-tree key (a .tree) (a .holds) (a .ordered)) (in-map (a .tree)) ∙ ap (λ (b : Bool). doneFrom b) (sym (held-listed key))
     where
-      go : (r : Option (ℕ × ℕ)) → stopDone (stopFrom r (parting key (a .tree))) ≡ doneFrom (is-some (valueOf r))
-      go none = refl
-      go (some e) = refl
+      in-map : (t : Map) → stopDone (stopIn key t) ≡ doneFrom (is-some (valueOf (lookupIn key t)))
+      in-map none = refl
+      in-map (some t) = go (lookup key t)
+        where
+          go : (r : Option (ℕ × ℕ)) → stopDone (stopFrom ws key (target key t) r) ≡ doneFrom (is-some (valueOf r))
+          go none = refl
+          go (some e) = refl
 
   -- the node index of a held key is its leaf's
   pub addr-agrees : (key : Key) → addrOf m n ws key ≡ placeFrom (lookupIn key (a .tree))
   unfolding addrOf openedPlace stopPlace stopFrom
-  addr-agrees key = rw (image-opened, find-tree key (a .tree) (a .holds) (a .ordered)) (go (lookupIn key (a .tree)))
+  addr-agrees key = rw (accepted-opens a, find-tree key (a .tree) (a .holds) (a .ordered)) (in-map (a .tree))
     where
-      go : (r : Option (ℕ × ℕ)) → stopPlace (stopFrom r (parting key (a .tree))) ≡ placeFrom r
-      go none = refl
-      go (some e) = refl
+      in-map : (t : Map) → stopPlace (stopIn key t) ≡ placeFrom (lookupIn key t)
+      in-map none = refl
+      in-map (some t) = go (lookup key t)
+        where
+          go : (r : Option (ℕ × ℕ)) → stopPlace (stopFrom ws key (target key t) r) ≡ placeFrom r
+          go none = refl
+          go (some e) = refl
 
   -- ---- smallest and largest
 
@@ -225,22 +237,23 @@ module _ {m n : ℕ} {ws : List ℕ} (a : Accepted m n ws) where
   end-all P b t l = all-end (λ e. P (e .1)) b (entries t) l (outermost-entry b t)
 
   end-stop : (right : Bool) (t : Map) → HoldsMap (headerOf n ws) ws t → OrderedMap t → All (λ e. Live (valueRecordOf n ws (e .1))) (listOf t)
-      → targetEntry ws (stopTarget n ws (descent.endOf (headerOf n ws) ws right)) ≡ entryFrom (Option·map (λ e. (e .0, valueAtRecord n ws (e .1))) (listEnd right (listOf t)))
-  unfolding targetEntry stopTarget leafTarget
-  end-stop right none k o l = rw (from-none (endTurn right) k)
+      → targetEntry (stopTarget n ws (landedIn (λ p. right) t)) ≡ entryFrom (Option·map (λ e. (e .0, valueAtRecord n ws (e .1))) (listEnd right (listOf t)))
+  unfolding targetEntry stopTarget liveTarget
+  end-stop right none k o l = refl
   end-stop right (some t) k o l =
+      let e = rw (outermost-landed right t) at (landed-node (headerOf n ws) ws (λ p. right) 0 0 t (held-of t k)) in
       rw (
-        from-root (endTurn right) t k,
-        end-held (headerOf n ws) ws right 129 0 0 t (short t o) (held-of t k) (λ z. root-rule m n (headerOf n ws) t (a .header) (counted-of t k)),
-        live-passes (valueRecordOf n ws (outermost right t .1 .1)) (end-all (λ v. Live (valueRecordOf n ws v)) right t l),
-        end-key (headerOf n ws) ws right 0 0 t (held-of t k),
+        outermost-landed right t,
+        e .1,
+        live-held (outermost right t .1 .0) (outermost right t .1 .1) (end-all (λ v. Live (valueRecordOf n ws v)) right t l),
         outermost-entry right t,
       )
 
   pub end-agrees : (right : Bool) → endEntry m n ws right ≡ entryFrom (listEnd right (listed a))
   unfolding endEntry openedEntry
   end-agrees right =
-      rw image-opened (end-stop right (a .tree) (a .holds) (a .ordered) (a .live)) ∙ ap entryFrom (sym (end-valued n ws right (listOf (a .tree))))
+      rw (accepted-opens a, sides-tree (endTurn right) (λ p. right) (end-sided right) (a .tree) (a .holds) (a .ordered))
+      (end-stop right (a .tree) (a .holds) (a .ordered) (a .live)) ∙ ap entryFrom (sym (end-valued n ws right (listOf (a .tree))))
 
   -- ---- length and capacity
 
@@ -252,8 +265,8 @@ module _ {m n : ℕ} {ws : List ℕ} (a : Accepted m n ws) where
 
   pub length-agrees : lengthOf m n ws ≡ count.Is (length (listed a))
   unfolding lengthOf openedLength
-  length-agrees = rw (image-opened, sized (a .tree) (a .holds), length-map {B = Key × Value} (listOf (a .tree)) (λ e. (e .0, valueAtRecord n ws (e .1))))
+  length-agrees = rw (accepted-opens a, sized (a .tree) (a .holds), length-map {B = Key × Value} (listOf (a .tree)) (λ e. (e .0, valueAtRecord n ws (e .1))))
 
-  pub capacity-agrees : capacityOf m n ws ≡ count.Is m
-  unfolding capacityOf openedCapacity
-  capacity-agrees = rw image-opened
+  pub capacity-agrees : capacityReply m n ws ≡ count.Is m
+  unfolding capacityReply openedCapacity
+  capacity-agrees = rw (accepted-opens a)

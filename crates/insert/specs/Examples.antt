@@ -1,4 +1,4 @@
--- Document 01's bench examples of insert, computed: "A is 2^127, B is 0, C is 1; M = 4, N = 8, 140 words (139 and 141: refusal 1)".
+-- The bench examples of insert (rules B1 and on), computed: "A is 2^127, B is 0, C is 1; M = 4, N = 8, 140 words (139 and 141: refusal 1)".
 use mathlib.Core.Path.{_≡_, refl}
 use mathlib.Core.List.{List, [], _∷_}
 use Prim.Native.Nat.{ℕ, zero, suc, _+_, _^_}
@@ -9,19 +9,19 @@ use Rattle.keys.specs.declared.Key.{Key}
 use Rattle.keys.specs.Number.{numberOf}
 use Rattle.keys.specs.Common.{common, commonOf, bitOf}
 use Rattle.node_allocator.specs.Layout.{headerAt, recordAt, capacityOf, widthOf, valuesAt}
-use Rattle.node_allocator.specs.Steps.{countsOf, getRegister, setRegister, connected, neverUsed, freshTaken, freedTaken, unlinked, addIndex, addImage}
+use Rattle.node_allocator.specs.Steps.{setCounts, getRegister, setRegister, neverUsed, taken, addCounts, addImage}
 use Rattle.records.specs.declared.Place.{Place}
 use Rattle.records.specs.declared.Place.the-variants as place
 use Rattle.records.specs.declared.Refusal.the-variants as no
 use Rattle.records.specs.declared.Value.{Value}
 use Rattle.records.specs.Layout.{imageLength}
-use Rattle.records.specs.Records.{headerOf, nodeOf, recordFrom, valueRecordOf}
-use Rattle.inspection.specs.Tests.{arenaOk, countsOk, headerOk, formOk, nodeOk, kidsOk, freeNode, freeValue}
-use Rattle.inspection.specs.Opening.{openOf}
-use Rattle.records.specs.Writes.{setContent, setValue}
-use Rattle.descent.specs.Descent.{childOf, lookupTurn, stepOf, descend, fromRoot}
-use Rattle.insert.specs.Plan.{takenNode, nextNode, takenValue, firstPlan, stopPlan, planOf}
-use Rattle.insert.specs.Steps.{leafTaken, valueTaken, leafAdded, copyTaken, hung, duplicated, replaced, firstImage, sharedOf, forkedImage, splitImage, planImage, planPlace, openedPlan, insertOf, insertImage}
+use Rattle.records.specs.Records.{headerOf, frontOf, spareOf, nodeOf, paddingOf, recordFrom, valueRecordOf}
+use Rattle.records.specs.Writes.{registersSet, keySet, nodeSet, setNode, valueSet, liveRecord, setValue}
+use Rattle.inspection.specs.Tests.{arenaOk, countsOk, headerOk, topOk, paddingOk, formOk, nodeOk, rootOk, kidsOk, liveValue, freeNode, freeValue}
+use Rattle.inspection.specs.Opening.{openShaped, openOf}
+use Rattle.descent.specs.Descent.{childOf, lookupTurn, turnAt, descend, fromRoot}
+use Rattle.insert.specs.Plan.{takenNode, nextNode, takenValue, leafTests, splitTests, stopPlan, insertPlan}
+use Rattle.insert.specs.Steps.{leafTaken, copyIndex, bothTaken, firstImage, adopted, forkNode, forked, splitImage, planImage, planPlace, openedPlan, insertOf, insertImage}
 
 abbrev A : Key
 A = record { high = 2 ^ 63; low = 0 }
@@ -98,9 +98,10 @@ pub worked-inserts :
     × (insertOf 4 8 (blank 141) A ≡ place.Refused no.Shape)
     × (insertOf 4 7 (started 4 7) A ≡ place.Refused no.Shape)
 unfolding
-    wideAt setWide zerosAt numberOf common commonOf bitOf headerAt recordAt capacityOf widthOf countsOf getRegister setRegister connected neverUsed freshTaken freedTaken unlinked addIndex addImage
-    headerOf nodeOf recordFrom arenaOk countsOk headerOk formOk nodeOk kidsOk freeNode freeValue openOf setContent setValue childOf lookupTurn stepOf descend fromRoot
-    takenNode nextNode takenValue firstPlan stopPlan planOf leafTaken valueTaken leafAdded copyTaken hung duplicated replaced firstImage sharedOf forkedImage splitImage
+    wideAt setWide zerosAt numberOf common commonOf bitOf headerAt recordAt capacityOf widthOf setCounts getRegister setRegister neverUsed taken addCounts addImage
+    headerOf frontOf spareOf nodeOf paddingOf recordFrom registersSet keySet nodeSet setNode valueSet liveRecord setValue
+    arenaOk countsOk headerOk topOk paddingOk formOk nodeOk rootOk kidsOk liveValue freeNode freeValue openShaped openOf childOf lookupTurn turnAt descend fromRoot
+    takenNode nextNode takenValue leafTests splitTests stopPlan insertPlan leafTaken copyIndex bothTaken firstImage adopted forkNode forked splitImage
     planImage planPlace openedPlan insertOf insertImage blank started one two three full once twice
 worked-inserts = (
   refl,

@@ -19,41 +19,36 @@ use Rattle.insert.specs.Steps.{planPlace, planImage, openedPlan, insertO
 use Rattle.insert.specs.Ready.{Writes, plan-opened}
 
 -- a plan that writes does not refuse
-writes-number : (n : ℕ) (ws : List ℕ) (p : Plan) → Writes p → placeNumber (planPlace n ws p) ≡ 0
+writes-number : (p : Plan) → Writes p → placeNumber (planPlace p) ≡ 0
 unfolding planPlace placeNumber
-writes-number n ws First w = refl
-writes-number n ws (Replace i j) w = refl
-writes-number n ws (Split i) w = refl
-writes-number n ws (Refused r) w = absurd w
+writes-number (First h) w = refl
+writes-number (Replace i j) w = refl
+writes-number (Split h i x shared) w = refl
+writes-number (Refused r) w = absurd w
 
 module _ (m n : ℕ) (before : List ℕ) (key : Key) (p : Plan) (e : openedPlan m n (imageOf before) key (openOf m n (imageOf before)) ≡ p) where
-  answer : planPlace n (imageOf before) p ≡ insertOf m n (imageOf before) key
+  pub planned-answer : planPlace p ≡ insertOf m n (imageOf before) key
   unfolding insertOf
-  answer = rw e
+  planned-answer = rw e
 
   image : (v : Value) → planImage m n (imageOf before) key v p ≡ insertImage m n (imageOf before) key v
   unfolding insertImage
   image v = rw e
 
-  module _ (w : Writes p) where
-    same : imageOf before ≡ words before
-    same = let o = plan-opened m n (imageOf before) key p w e in opened-words m n before (o .0) (o .1)
-
-    pub done-answer : planPlace n (words before) p ≡ insertOf m n (imageOf before) key
-    done-answer = rw (sym same) answer
-
-    pub done-image : (v : Value) (after : List ℕ) → length after ≡ length before → words after ≡ planImage m n (words before) key v p
-        → Leaves before after (placeNumber (insertOf m n (imageOf before) key)) (insertImage m n (imageOf before) key v)
-    done-image v after long t =
-        let o = plan-opened m n (imageOf before) key p w e in
-        wrote (opened-whole m n before (o .0) (o .1)) long (ap placeNumber (sym answer) ∙ writes-number n (imageOf before) p w)
-        (t ∙ ap (λ ws. planImage m n ws key v p) (sym same) ∙ image v)
+  -- a plan that writes
+  pub planned-image : Writes p → (v : Value) (after : List ℕ) → length after ≡ length before → words after ≡ planImage m n (words before) key v p
+      → Leaves before after (placeNumber (insertOf m n (imageOf before) key)) (insertImage m n (imageOf before) key v)
+  planned-image w v after long t =
+      let o = plan-opened m n key p w (imageOf before) e in
+      let same : imageOf before ≡ words before = opened-words m n before (o .0) (o .1) in
+      wrote (opened-whole m n before (o .0) (o .1)) long (ap placeNumber (sym planned-answer) ∙ writes-number p w)
+      (t ∙ ap (λ ws. planImage m n ws key v p) (sym same) ∙ image v)
 
 -- a refused plan
 module _ (m n : ℕ) (before : List ℕ) (key : Key) (r : Refusal) (e : openedPlan m n (imageOf before) key (openOf m n (imageOf before)) ≡ Refused r) where
   pub refused-answer : place.Refused r ≡ insertOf m n (imageOf before) key
   unfolding planPlace
-  refused-answer = answer m n before key (Refused r) e
+  refused-answer = planned-answer m n before key (Refused r) e
 
   pub refused-image : (v : Value) → Leaves before before (placeNumber (insertOf m n (imageOf before) key)) (insertImage m n (imageOf before) key v)
   unfolding planImage

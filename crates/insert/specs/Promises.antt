@@ -1,4 +1,4 @@
--- What document 01 promises of every call, for insert: each refusal number "when, and only then", a refusal leaves every word and its index is 0, and the contract allows no
+-- What is promised of every call, for insert: each refusal number "when, and only then", a refusal leaves every word and its index is 0, and the contract allows no
 -- second outcome.
 use mathlib.Core.Path.{_≡_, refl, sym, subst, _∙_}
 use mathlib.Core.List.{List}
@@ -20,19 +20,18 @@ use Rattle.records.specs.declared.Place.{Place}
 use Rattle.records.specs.declared.Place.the-variants as place
 use Rattle.records.specs.declared.Refusal.the-variants as no
 use Rattle.records.specs.Layout.{imageOf}
-use Rattle.records.specs.Records.{headerOf, nodeOf, valueRecordOf}
-use Rattle.inspection.specs.Tests.{shapeOk, headerOk, kidsOk, liveValue}
+use Rattle.inspection.specs.Tests.{shapeOk, topOk, kidsOk, liveValue}
 use Rattle.records.specs.Numbers.{refusalNumber, placeNumber, placeIndex}
-use Rattle.inspection.specs.Opening.{openOf}
+use Rattle.inspection.specs.Opening.{openShaped, openOf}
 use Rattle.inspection.specs.Answers.{Opens, misshapen, unsound, sound, opens}
 use Rattle.inspection.specs.Outcome.{Leaves, one-outcome}
-use Rattle.inspection.specs.Room.{open-shaped, opened-whole}
+use Rattle.inspection.specs.Room.{opened-whole}
 use Rattle.descent.specs.declared.Stop.{Stop}
 use Rattle.descent.specs.declared.Stop.the-variants as stop
 use Rattle.descent.specs.Descent.{findOf}
 use Rattle.insert.specs.declared.Plan.{Plan}
 use Rattle.insert.specs.declared.Plan.the-variants.{First, Replace, Split, Refused}
-use Rattle.insert.specs.Plan.{takenNode, nextNode, takenValue, firstPlan, stopPlan, planOf}
+use Rattle.insert.specs.Plan.{leafTests, splitTests, stopPlan, insertPlan}
 use Rattle.insert.specs.Steps.{planImage, planPlace, openedPlan, insertOf, insertImage}
 
 abbrev pub number : ℕ → ℕ → List ℕ → Key → ℕ
@@ -40,26 +39,17 @@ number m n ws key = placeNumber (insertOf m n ws key)
 
 -- ---- when a test fails
 
--- what is tested in an opened image that is not full: the records to be taken in the empty map, else what the descent's stop asks for
+-- what is tested in an opened image that is not full, by where the descent stopped
 unfoldable pub stopTests : ℕ → ℕ → Header → List ℕ → Stop → Bool
-stopTests m n h ws (stop.Leaf i j) = liveValue (valueRecordOf n ws (j .0))
-stopTests m n h ws (stop.Parted i) =
-    kidsOk h ws (i .0) (nodeOf ws (i .0))
-    && takenNode n h ws (h .nodes .head)
-    && takenNode n h ws (nextNode h ws (h .nodes .head))
-    && takenValue m n h ws (h .values .head)
+stopTests m n h ws (stop.Leaf i x) = liveValue n ws (i .0) (x .value .0)
+stopTests m n h ws (stop.Parted i x shared) = kidsOk h ws (i .0) x && splitTests m n h ws
+stopTests m n h ws stop.Empty = leafTests m n h ws
 stopTests m n h ws stop.Damaged = false
-
-unfoldable pub planTests : ℕ → ℕ → Header → List ℕ → Key → Bool
-planTests m n h ws key =
-    cond (eqb (h .values .size) 0)
-    (takenNode n h ws (h .nodes .head) && takenValue m n h ws (h .values .head))
-    (stopTests m n h ws (findOf h ws key))
 
 -- the shape is right and the header fails
 pub record HeaderFails (m n : ℕ) (ws : List ℕ) : Type 0 where
   pub shape : shapeOk m n (length ws) ≡ true
-  pub header : headerOk m n (headerOf n ws) ≡ false
+  pub header : topOk m n ws ≡ false
 
 -- shape and header pass, and n = M
 pub record Full (m n : ℕ) (ws : List ℕ) : Type 0 where
@@ -72,7 +62,7 @@ pub record Tested (m n : ℕ) (ws : List ℕ) (key : Key) (passed : Bool) : Type
   pub header : Header
   pub opens : openOf m n ws ≡ Good header
   pub room : header .values .size ≢ m
-  pub tests : planTests m n header ws key ≡ passed
+  pub tests : stopTests m n header ws (findOf header ws key) ≡ passed
 
 -- the refusal numbers, and 0 where insert does not refuse
 abbrev pub When : ℕ → ℕ → List ℕ → Key → ℕ → Type 0
@@ -84,57 +74,49 @@ When m n ws key (suc (suc (suc (suc k)))) = ⊥
 
 -- ---- the number that comes of each
 
-module _ (n : ℕ) (ws : List ℕ) where
-  chosen : (f b : Bool) (p : Plan) → f ≡ b → placeNumber (planPlace n ws p) ≡ 0 → placeNumber (planPlace n ws (cond f p (Refused no.Damaged))) ≡ cond b 0 2
-  unfolding planPlace placeNumber refusalNumber
-  chosen true b p t z = rw (sym t) z
-  chosen false b p t z = rw (sym t)
+chosen : (f b : Bool) (p : Plan) → f ≡ b → placeNumber (planPlace p) ≡ 0 → placeNumber (planPlace (cond f p (Refused no.Damaged))) ≡ cond b 0 2
+unfolding planPlace placeNumber refusalNumber
+chosen true b p t z = rw (sym t) z
+chosen false b p t z = rw (sym t)
 
-  module _ (m : ℕ) (h : Header) where
-    stop-number : (s : Stop) (b : Bool) → stopTests m n h ws s ≡ b → placeNumber (planPlace n ws (stopPlan m n h ws s)) ≡ cond b 0 2
-    unfolding stopTests stopPlan planPlace placeNumber refusalNumber
-    stop-number (stop.Leaf i j) b t = chosen (liveValue (valueRecordOf n ws (j .0))) b (Replace i j) t refl
-    stop-number (stop.Parted i) b t = chosen (stopTests m n h ws (stop.Parted i)) b (Split i) t refl
-    stop-number stop.Damaged b t = rw (sym t)
+module _ (m n : ℕ) (h : Header) (ws : List ℕ) where
+  stop-number : (s : Stop) (b : Bool) → stopTests m n h ws s ≡ b → placeNumber (planPlace (stopPlan m n h ws s)) ≡ cond b 0 2
+  unfolding stopTests stopPlan planPlace placeNumber refusalNumber
+  stop-number (stop.Leaf i x) b t = chosen (stopTests m n h ws (stop.Leaf i x)) b (Replace i (x .value)) t refl
+  stop-number (stop.Parted i x shared) b t = chosen (stopTests m n h ws (stop.Parted i x shared)) b (Split h i x shared) t refl
+  stop-number stop.Empty b t = chosen (leafTests m n h ws) b (First h) t refl
+  stop-number stop.Damaged b t = rw (sym t)
 
-    tested-number : (key : Key) (b : Bool) → h .values .size ≢ m → planTests m n h ws key ≡ b → placeNumber (planPlace n ws (planOf m n h ws key)) ≡ cond b 0 2
-    unfolding planTests planOf firstPlan planPlace placeNumber
-    tested-number key b d t = rw (ne-eqb (h .values .size) m d) (go (eqb (h .values .size) 0) t)
-      where
-        go : (a : Bool) → cond a (takenNode n h ws (h .nodes .head) && takenValue m n h ws (h .values .head)) (stopTests m n h ws (findOf h ws key)) ≡ b
-            → placeNumber (planPlace n ws (cond a (firstPlan m n h ws) (stopPlan m n h ws (findOf h ws key)))) ≡ cond b 0 2
-        go true s = chosen (takenNode n h ws (h .nodes .head) && takenValue m n h ws (h .values .head)) b First s refl
-        go false s = stop-number (findOf h ws key) b s
+  tested-number : (key : Key) (b : Bool) → h .values .size ≢ m → stopTests m n h ws (findOf h ws key) ≡ b → placeNumber (planPlace (insertPlan m n h ws key)) ≡ cond b 0 2
+  unfolding insertPlan
+  tested-number key b d t = rw (ne-eqb (h .values .size) m d) (stop-number (findOf h ws key) b t)
 
-    full-number : (key : Key) → 1 ≤ m → h .values .size ≡ m → placeNumber (planPlace n ws (planOf m n h ws key)) ≡ 3
-    unfolding planOf planPlace placeNumber refusalNumber
-    full-number key some e =
-        let some′ : h .values .size ≢ 0 = λ z. omega arith in
-        rw (ne-eqb (h .values .size) 0 some′, eq-eqb (h .values .size) m e)
+  full-number : (key : Key) → h .values .size ≡ m → placeNumber (planPlace (insertPlan m n h ws key)) ≡ 3
+  unfolding insertPlan planPlace placeNumber refusalNumber
+  full-number key e = rw (eq-eqb (h .values .size) m e)
 
 module _ (m n : ℕ) (ws : List ℕ) (key : Key) where
-  opened-number : (o : Opened) → openOf m n ws ≡ o → placeNumber (planPlace n ws (openedPlan m n ws key o)) ≡ number m n ws key
+  opened-number : (o : Opened) → openOf m n ws ≡ o → placeNumber (planPlace (openedPlan m n ws key o)) ≡ number m n ws key
   unfolding insertOf
   opened-number o e = rw e
 
-  good-number : (h : Header) → openOf m n ws ≡ Good h → placeNumber (planPlace n ws (planOf m n h ws key)) ≡ number m n ws key
+  good-number : (h : Header) → openOf m n ws ≡ Good h → placeNumber (planPlace (insertPlan m n h ws key)) ≡ number m n ws key
   unfolding openedPlan
   good-number h e = opened-number (Good h) e
 
   number-of : (k : ℕ) → When m n ws key k → number m n ws key ≡ k
-  unfolding openOf openedPlan planPlace placeNumber refusalNumber
-  number-of zero x = sym (good-number (x .header) (x .opens)) ∙ tested-number n ws m (x .header) key true (x .room) (x .tests)
+  unfolding openOf openShaped openedPlan planPlace placeNumber refusalNumber
+  number-of zero x = sym (good-number (x .header) (x .opens)) ∙ tested-number m n (x .header) ws key true (x .room) (x .tests)
   number-of (suc zero) e = sym (opened-number (Shut no.Shape) (rw e))
   number-of (suc (suc zero)) (inl x) = sym (opened-number (Shut no.Damaged) (rw (x .shape, x .header)))
-  number-of (suc (suc zero)) (inr x) = sym (good-number (x .header) (x .opens)) ∙ tested-number n ws m (x .header) key false (x .room) (x .tests)
-  number-of (suc (suc (suc zero))) x =
-      sym (good-number (x .header) (x .opens)) ∙ full-number n ws m (x .header) key (open-shaped m n ws (x .header) (x .opens) .some) (x .full)
+  number-of (suc (suc zero)) (inr x) = sym (good-number (x .header) (x .opens)) ∙ tested-number m n (x .header) ws key false (x .room) (x .tests)
+  number-of (suc (suc (suc zero))) x = sym (good-number (x .header) (x .opens)) ∙ full-number m n (x .header) ws key (x .full)
   number-of (suc (suc (suc (suc k)))) x = absurd x
 
   some-number : (k : ℕ) × When m n ws key k
   some-number = go (opens m n ws)
     where
-      rest : (h : Header) → openOf m n ws ≡ Good h → Dec (h .values .size ≡ m) → (t : Bool) → planTests m n h ws key ≡ t → (k : ℕ) × When m n ws key k
+      rest : (h : Header) → openOf m n ws ≡ Good h → Dec (h .values .size ≡ m) → (t : Bool) → stopTests m n h ws (findOf h ws key) ≡ t → (k : ℕ) × When m n ws key k
       rest h o (yes d) t g = (3, record { header = h; opens = o; full = d })
       rest h o (no d) false g = (2, inr (record { header = h; opens = o; room = d; tests = g }))
       rest h o (no d) true g = (0, record { header = h; opens = o; room = d; tests = g })
@@ -142,7 +124,7 @@ module _ (m n : ℕ) (ws : List ℕ) (key : Key) where
       go : Opens m n ws → (k : ℕ) × When m n ws key k
       go (misshapen p o) = (1, p)
       go (unsound p q o) = (2, inl (record { shape = p; header = q }))
-      go (sound h p q o) = rest h o (ℕ-discrete (h .values .size) m) (planTests m n h ws key) refl
+      go (sound h p q o) = rest h o (ℕ-discrete (h .values .size) m) (stopTests m n h ws (findOf h ws key)) refl
 
   -- each number, "when, and only then"
   pub insert-number : (k : ℕ) → (number m n ws key ≡ k) ↔ When m n ws key k
@@ -151,11 +133,11 @@ module _ (m n : ℕ) (ws : List ℕ) (key : Key) where
 
   -- ---- refusals
 
-  plan-kept : (v : Value) (p : Plan) → placeNumber (planPlace n ws p) ≢ 0 → planImage m n ws key v p ≡ ws
+  plan-kept : (v : Value) (p : Plan) → placeNumber (planPlace p) ≢ 0 → planImage m n ws key v p ≡ ws
   unfolding planPlace placeNumber planImage
-  plan-kept v First d = absurd (d refl)
+  plan-kept v (First h) d = absurd (d refl)
   plan-kept v (Replace i j) d = absurd (d refl)
-  plan-kept v (Split i) d = absurd (d refl)
+  plan-kept v (Split h i x shared) d = absurd (d refl)
   plan-kept v (Refused r) d = refl
 
   -- no refusal changes the image

@@ -6,11 +6,14 @@ use crate::steps::first;
 use crate::steps::split;
 use crate::tests::plan;
 use keys::Key;
+use records::Header;
+use records::Node;
 use records::NodeIndex;
 use records::Place;
 use records::Refusal;
 use records::Value;
 use records::ValueIndex;
+use records::write::live_record;
 use records::write::set_value;
 ghost use mathlib.Core.Path.{_≡_};
 ghost use Rattle.records.specs.Layout.{imageOf};
@@ -18,11 +21,12 @@ ghost use Rattle.records.specs.Numbers.{placeNumber};
 ghost use Rattle.inspection.specs.Outcome.{Leaves};
 ghost use Rattle.insert.specs.Steps.{insertOf, insertImage};
 
-// What insert is going to do, found out before any write.
+// What insert is going to do, found out before any write: a first leaf; the value of an equal leaf replaced; a node split, of which the key shares so
+// many bits; or nothing. The header that was read goes along.
 pub enum Plan {
-    First,
+    First(Header),
     Replace(NodeIndex, ValueIndex),
-    Split(NodeIndex),
+    Split(Header, NodeIndex, Node, u64),
     Refused(Refusal),
 }
 
@@ -32,12 +36,18 @@ pub fn insert(img: &mut [u8], m: u32, n: u32, key: Key, v: Value) -> Place
     ensures image { λ _. ⌜ Leaves (now (img .entry)) (now (img .exit)) (placeNumber (insertOf m n (imageOf (now (img .entry))) key)) (insertImage m n (imageOf (now (img .entry))) key v) ⌝ }
 {
     match plan(img, m, n, key) {
-        Plan::First => Place::At(first(img, m, n, key, v)),
+        Plan::Split(h, i, x, shared) => {
+            split(img, m, n, h, i, x, shared, key, v);
+            Place::At(NodeIndex(h.nodes.head))
+        }
         Plan::Replace(i, j) => {
-            set_value(img, m, n, j, v);
+            set_value(img, m, n, j, live_record(i, v));
             Place::At(i)
         }
-        Plan::Split(i) => Place::At(split(img, m, n, i, key, v)),
+        Plan::First(h) => {
+            first(img, m, n, h, key, v);
+            Place::At(NodeIndex(h.nodes.head))
+        }
         Plan::Refused(r) => Place::Refused(r),
     }
 }

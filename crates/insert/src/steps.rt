@@ -1,159 +1,171 @@
-// What insert writes, in the Rust's order: a new leaf, a copy of the node that is split, and that node anew above both.
+// What insert writes. The records are taken in the Rust's order, and then each record that changes is stored as a whole.
 use keys::Key;
 use keys::bit;
-use keys::leading_equal;
 use node_allocator::Arena;
-use node_allocator::Field;
+use node_allocator::Counts;
+use node_allocator::Register;
 use node_allocator::add_node;
-use node_allocator::clear_register;
-use node_allocator::connect;
 use node_allocator::set_register;
-use records::Content;
+use records::Header;
+use records::Node;
 use records::NodeIndex;
 use records::Value;
 use records::ValueIndex;
-use records::read::node_in;
-use records::write::set_content;
+use records::write::live_record;
+use records::write::set_node;
 use records::write::set_root;
 use records::write::set_value;
 ghost use mathlib.Core.Path.{_≡_};
+ghost use mathlib.Core.Bool.{cond};
+ghost use Prim.Native.Nat.{_+_, _*_, _≤_};
 ghost use lib.ListN.{length};
 ghost use Rattle.words.specs.Words.{words};
-ghost use Rattle.node_allocator.specs.declared.Arena.the-variants.{Nodes, Values};
-ghost use Rattle.node_allocator.specs.Steps.{addIndex};
-ghost use Rattle.insert.specs.Ready.{Within};
-ghost use Rattle.insert.specs.Steps.{leafTaken, valueTaken, leafAdded, copyTaken, hung, duplicated, replaced, firstImage, forkedImage, splitImage};
+ghost use Rattle.node_allocator.specs.declared.Arena.the-variants.{Nodes};
+ghost use Rattle.node_allocator.specs.Steps.{addCounts};
+ghost use Rattle.records.specs.Records.{leafNode, withParent};
+ghost use Rattle.insert.specs.Steps.{leafTaken, firstImage, adopted, forkNode, forked, splitImage};
 
-// ---- add_leaf
-
-// A node is taken for a key.
-fn take_leaf(img: &mut [u8], n: u32, key: Key) -> u32
-    ensures index { λ r. ⌜ r ≡ addIndex (Nodes n) (words (now (img .entry))) ⌝ }
-    ensures image { λ _. ⌜ words (now (img .exit)) ≡ leafTaken n (words (now (img .entry))) key ⌝ }
+// The leaf's node is taken, and its value record, which holds the value. The answer is the nodes' header afterwards.
+fn take_leaf(img: &mut [u8], m: u32, n: u32, h: Header, v: Value) -> Counts
+    requires { ⌜ 48 * n + 32 * m + 48 ≤ length (now img) ⌝ }
+    ensures counts { λ r. ⌜ r ≡ addCounts (Nodes n) (words (now (img .entry))) (h .nodes) ⌝ }
+    ensures image { λ _. ⌜ words (now (img .exit)) ≡ leafTaken m n (words (now (img .entry))) h v ⌝ }
 {
-    let c = Content {
-        key,
-        prefix: 128,
-        padding: 0,
-    };
-    let i = add_node(img, Arena::Nodes { nodes: n });
-    set_content(img, n, NodeIndex(i), c);
-    i
-}
-
-// A value record is taken for a value.
-fn take_value(img: &mut [u8], m: u32, n: u32, v: Value) -> u32
-    ensures index { λ r. ⌜ r ≡ addIndex (Values n m) (words (now (img .entry))) ⌝ }
-    ensures image { λ _. ⌜ words (now (img .exit)) ≡ valueTaken m n (words (now (img .entry))) v ⌝ }
-{
+    let nodes = h.nodes;
+    let values = h.values;
     let a = Arena::Values {
         nodes: n,
         values: m,
     };
-    let j = add_node(img, a);
-    set_value(img, m, n, ValueIndex(j), v);
-    j
+    let after = add_node(img, Arena::Nodes { nodes: n }, nodes);
+    add_node(img, a, values);
+    set_value(
+        img,
+        m,
+        n,
+        ValueIndex(values.head),
+        live_record(NodeIndex(nodes.head), v),
+    );
+    after
 }
 
-// A new leaf, with its value record.
-fn add_leaf(img: &mut [u8], m: u32, n: u32, key: Key, v: Value) -> u32
-    ensures index { λ r. ⌜ r ≡ addIndex (Nodes n) (words (now (img .entry))) ⌝ }
-    ensures image { λ _. ⌜ words (now (img .exit)) ≡ leafAdded m n (words (now (img .entry))) key v ⌝ }
+fn leaf_node(parent: NodeIndex, key: Key, value: ValueIndex) -> Node
+    ensures { λ r. ⌜ r ≡ leafNode (parent .0) key (value .0) ⌝ }
 {
-    let i = take_leaf(img, n, key);
-    let j = take_value(img, m, n, v);
-    set_register(img, Arena::Nodes { nodes: n }, i, j, Field::Value);
-    i
+    Node {
+        left: NodeIndex(0),
+        right: NodeIndex(0),
+        parent,
+        value,
+        key,
+        prefix: 128,
+    }
 }
 
 // Into the empty map: the new leaf is the root.
-pub fn first(img: &mut [u8], m: u32, n: u32, key: Key, v: Value) -> NodeIndex
-    ensures index { λ r. ⌜ r .0 ≡ addIndex (Nodes n) (words (now (img .entry))) ⌝ }
-    ensures image { λ _. ⌜ words (now (img .exit)) ≡ firstImage m n (words (now (img .entry))) key v ⌝ }
+pub fn first(img: &mut [u8], m: u32, n: u32, h: Header, key: Key, v: Value)
+    requires { ⌜ 48 * n + 32 * m + 48 ≤ length (now img) ⌝ }
+    ensures { λ _. ⌜ words (now (img .exit)) ≡ firstImage m n (words (now (img .entry))) h key v ⌝ }
 {
-    let i = NodeIndex(add_leaf(img, m, n, key, v));
-    set_root(img, i);
-    i
+    let leaf = NodeIndex(h.nodes.head);
+    let x = leaf_node(NodeIndex(0), key, ValueIndex(h.values.head));
+    take_leaf(img, m, n, h, v);
+    set_node(img, n, leaf, x);
+    set_root(img, leaf);
 }
 
-// ---- duplicate and replace_node
-
-// Node `i`'s children are these, and it is their parent.
-fn hang(img: &mut [u8], n: u32, i: u32, left: u32, right: u32)
-    ensures { λ _. ⌜ words (now (img .exit)) ≡ hung n (words (now (img .entry))) i left right ⌝ }
+// Nodes `l` and `r`, where they are nodes, hang below node `i`.
+fn adopt(img: &mut [u8], n: u32, i: NodeIndex, l: NodeIndex, r: NodeIndex)
+    ensures { λ _. ⌜ words (now (img .exit)) ≡ adopted n (words (now (img .entry))) (i .0) (l .0) (r .0) ⌝ }
 {
     let a = Arena::Nodes { nodes: n };
-    connect(img, a, i, left, Field::Left, Field::Parent);
-    connect(img, a, i, right, Field::Right, Field::Parent);
+    set_register(img, a, l.0, i.0, Register::Parent);
+    set_register(img, a, r.0, i.0, Register::Parent);
 }
 
-// A node is taken that holds what node `i` holds.
-fn take_copy(img: &mut [u8], n: u32, i: NodeIndex) -> u32
-    requires { ⌜ Within (i .0) (length (words (now img))) ⌝ }
-    ensures index { λ r. ⌜ r ≡ addIndex (Nodes n) (words (now (img .entry))) ⌝ }
-    ensures image { λ _. ⌜ words (now (img .exit)) ≡ copyTaken n (words (now (img .entry))) (i .0) ⌝ }
+fn with_parent(parent: NodeIndex, x: Node) -> Node
+    ensures { λ r. ⌜ r ≡ withParent (parent .0) x ⌝ }
 {
-    let a = Arena::Nodes { nodes: n };
-    let x = node_in(img, i);
+    let left = x.left;
+    let right = x.right;
+    let value = x.value;
     let key = x.key;
-    let c = Content {
+    Node {
+        left,
+        right,
+        parent,
+        value,
         key,
         prefix: x.prefix,
-        padding: x.padding,
-    };
-    let copy = add_node(img, a);
-    set_content(img, n, NodeIndex(copy), c);
-    set_register(img, a, copy, x.value.0, Field::Value);
-    copy
+    }
 }
 
-// A copy of node `i`, which takes over its children.
-fn duplicate(img: &mut [u8], n: u32, i: NodeIndex) -> u32
-    requires { ⌜ Within (i .0) (length (words (now img))) ⌝ }
-    ensures index { λ r. ⌜ r ≡ addIndex (Nodes n) (words (now (img .entry))) ⌝ }
-    ensures image { λ _. ⌜ words (now (img .exit)) ≡ duplicated n (words (now (img .entry))) (i .0) ⌝ }
+// The first of two nodes, or the second.
+fn pick(first: bool, a: NodeIndex, b: NodeIndex) -> NodeIndex
+    ensures { λ r. ⌜ r ≡ cond first a b ⌝ }
 {
-    let x = node_in(img, i);
-    let copy = take_copy(img, n, i);
-    hang(img, n, copy, x.left.0, x.right.0);
-    copy
+    if first {
+        return a;
+    }
+    b
 }
 
-// Node `i` becomes inner: a key, the length of its prefix, and two children.
-fn replace_node(img: &mut [u8], n: u32, i: u32, key: Key, shared: u64, left: u32, right: u32)
-    ensures { λ _. ⌜ words (now (img .exit)) ≡ replaced n (words (now (img .entry))) i key shared left right ⌝ }
+// The inner node that takes the place of `x`: the new leaf hangs on the side of the key's bit at the shared length, and the copy of `x` on the other.
+fn fork_node(key: Key, shared: u64, leaf: NodeIndex, copy: NodeIndex, x: Node) -> Node
+    ensures { λ r. ⌜ r ≡ forkNode key shared (leaf .0) (copy .0) x ⌝ }
 {
-    let c = Content {
+    let right = bit(key, shared);
+    let parent = x.parent;
+    Node {
+        left: pick(right, copy, leaf),
+        right: pick(right, leaf, copy),
+        parent,
+        value: ValueIndex(0),
         key,
         prefix: shared,
-        padding: 0,
-    };
-    set_content(img, n, NodeIndex(i), c);
-    clear_register(img, Arena::Nodes { nodes: n }, i, Field::Value);
-    hang(img, n, i, left, right);
-}
-
-// The new leaf hangs on the side of the key's bit at the shared length, and the copy on the other.
-fn fork(img: &mut [u8], n: u32, i: u32, key: Key, shared: u64, leaf: u32, copy: u32)
-    ensures { λ _. ⌜ words (now (img .exit)) ≡ forkedImage n (words (now (img .entry))) i key shared leaf copy ⌝ }
-{
-    if bit(key, shared) {
-        replace_node(img, n, i, key, shared, copy, leaf);
-        return;
     }
-    replace_node(img, n, i, key, shared, leaf, copy);
 }
 
-// At node `i`, where the key parts from the map: a leaf for it, a copy of the node, and the node above both.
-pub fn split(img: &mut [u8], m: u32, n: u32, i: NodeIndex, key: Key, v: Value) -> NodeIndex
-    requires { ⌜ Within (i .0) (length (words (now img))) ⌝ }
-    ensures index { λ r. ⌜ r .0 ≡ addIndex (Nodes n) (words (now (img .entry))) ⌝ }
-    ensures image { λ _. ⌜ words (now (img .exit)) ≡ splitImage m n (words (now (img .entry))) (i .0) key v ⌝ }
+// Node `i`, whose record is `x`, moves to the copy; the new leaf, and node `i` anew above both.
+fn fork(
+    img: &mut [u8],
+    n: u32,
+    i: NodeIndex,
+    x: Node,
+    shared: u64,
+    key: Key,
+    leaf: NodeIndex,
+    cell: ValueIndex,
+    copy: NodeIndex,
+)
+    requires { ⌜ 48 * n + 32 ≤ length (now img) ⌝ }
+    ensures { λ _. ⌜ words (now (img .exit)) ≡ forked n (words (now (img .entry))) (i .0) x shared key (leaf .0) (cell .0) (copy .0) ⌝ }
 {
-    let x = node_in(img, i);
-    let shared = leading_equal(key, x.key);
-    let leaf = add_leaf(img, m, n, key, v);
-    let copy = duplicate(img, n, i);
-    fork(img, n, i.0, key, shared, leaf, copy);
-    NodeIndex(leaf)
+    set_node(img, n, copy, with_parent(i, x));
+    set_node(img, n, leaf, leaf_node(i, key, cell));
+    set_node(img, n, i, fork_node(key, shared, leaf, copy, x));
+}
+
+// At node `i`, whose record is `x` and where the key parts from the map: a leaf for it, a copy of the node, and the node above both.
+pub fn split(
+    img: &mut [u8],
+    m: u32,
+    n: u32,
+    h: Header,
+    i: NodeIndex,
+    x: Node,
+    shared: u64,
+    key: Key,
+    v: Value,
+)
+    requires { ⌜ 48 * n + 32 * m + 48 ≤ length (now img) ⌝ }
+    ensures { λ _. ⌜ words (now (img .exit)) ≡ splitImage m n (words (now (img .entry))) h (i .0) x shared key v ⌝ }
+{
+    let leaf = NodeIndex(h.nodes.head);
+    let cell = ValueIndex(h.values.head);
+    let after = take_leaf(img, m, n, h, v);
+    let copy = NodeIndex(after.head);
+    add_node(img, Arena::Nodes { nodes: n }, after);
+    adopt(img, n, copy, x.left, x.right);
+    fork(img, n, i, x, shared, key, leaf, cell, copy);
 }

@@ -2,139 +2,173 @@
 use crate::Plan;
 use descent::Stop;
 use descent::find;
+use inspection::Live;
 use inspection::Opened;
 use inspection::open::open_image;
 use inspection::tests::free_node;
 use inspection::tests::free_value;
-use inspection::tests::kids_ok;
-use inspection::tests::live_value;
+use inspection::visit::kids_ok;
+use inspection::visit::live_value;
 use keys::Key;
 use node_allocator::Arena;
 use node_allocator::never_used;
 use records::Header;
+use records::Node;
 use records::NodeIndex;
 use records::Refusal;
 use records::ValueIndex;
 use records::read::node_in;
 use records::read::value_record;
 ghost use mathlib.Core.Path.{_≡_};
-ghost use mathlib.Core.Bool.{_&&_, cond, true};
-ghost use Prim.Native.Nat.{_≤_};
+ghost use mathlib.Core.Bool.{_&&_};
+ghost use Prim.Native.Nat.{_+_, _*_, _≤_};
 ghost use lib.ListN.{length};
+ghost use lib.Dec.{leb};
 ghost use Rattle.words.specs.Words.{words};
-ghost use Rattle.records.specs.Layout.{imageOf};
-ghost use Rattle.records.specs.declared.Refusal.the-variants.{Damaged};
-ghost use Rattle.records.specs.Records.{valueRecordOf};
-ghost use Rattle.inspection.specs.Room.{Room};
-ghost use Rattle.inspection.specs.Tests.{usedNode, liveValue};
+ghost use Rattle.node_allocator.specs.declared.Arena.the-variants.{Nodes};
+ghost use Rattle.node_allocator.specs.Steps.{neverUsed};
+ghost use Rattle.records.specs.Layout.{imageOf, imageLength};
 ghost use Rattle.inspection.specs.Opening.{openOf};
-ghost use Rattle.descent.specs.declared.Stop.the-variants.{Parted};
-ghost use Rattle.insert.specs.declared.Plan.the-variants.{Replace, Refused};
-ghost use Rattle.insert.specs.Plan.{takenNode, nextNode, takenValue, firstPlan, stopPlan, planOf};
+ghost use Rattle.descent.specs.declared.Stop.the-variants.{Leaf, Parted, Empty};
+ghost use Rattle.insert.specs.Plan.{takenNode, nextNode, takenValue, leafTests, splitTests, stopPlan, insertPlan};
 ghost use Rattle.insert.specs.Ready.{Ready};
 ghost use Rattle.insert.specs.Steps.{openedPlan};
 
 // ---- the records that it will take
 
+// The node at the head: whether it may be taken, and the node that is taken after it.
+struct Head {
+    passes: bool,
+    next: NodeIndex,
+}
+
+// A node from the bump on: up to N it was never used.
+fn fresh_node(img: &[u8], n: u32, i: NodeIndex) -> bool
+    requires { ⌜ (1 ≤ i .0) × (12 * n + 8 ≤ length (words (now img))) ⌝ }
+    ensures { λ r. ⌜ r ≡ leb (i .0) n && neverUsed (Nodes n) (words (now (img .entry))) (i .0) ⌝ }
+{
+    if i.0 <= n {
+        return never_used(img, Arena::Nodes { nodes: n }, i.0);
+    }
+    false
+}
+
 // A node that is taken: below the bump it is free, and from there on it was never used.
-fn taken_node(img: &[u8], n: u32, h: Header, i: NodeIndex) -> bool
-    requires { ⌜ (1 ≤ i .0) × Room h (length (words (now img))) ⌝ }
+fn taken_node(img: &[u8], m: u32, n: u32, h: Header, i: NodeIndex) -> bool
+    requires { ⌜ (1 ≤ i .0) × Ready m n h (length (words (now img))) ⌝ }
     ensures { λ r. ⌜ r ≡ takenNode n h (words (now (img .entry))) (i .0) ⌝ }
 {
     if i.0 < h.nodes.bump {
-        return free_node(h, i, node_in(img, i));
+        return free_node(img, h, i, node_in(img, i));
     }
-    (i.0 <= n) & never_used(img, Arena::Nodes { nodes: n }, i.0)
+    fresh_node(img, n, i)
 }
 
-// The node that is taken after the head's.
-fn next_node(img: &[u8], h: Header) -> NodeIndex
-    requires { ⌜ Ready h (length (words (now img))) ⌝ }
-    ensures { λ r. ⌜ r .0 ≡ nextNode h (words (now (img .entry))) (h .nodes .head) ⌝ }
+// The node at the head.
+fn head_node(img: &[u8], m: u32, n: u32, h: Header) -> Head
+    requires { ⌜ Ready m n h (length (words (now img))) ⌝ }
+    ensures { λ r. ⌜ (r .passes ≡ takenNode n h (words (now (img .entry))) (h .nodes .head)) × (r .next .0 ≡ nextNode h (words (now (img .entry))) (h .nodes .head)) ⌝ }
 {
-    let head = h.nodes.head;
-    if head == h.nodes.bump {
-        return NodeIndex(head + 1);
+    let i = NodeIndex(h.nodes.head);
+    if i.0 < h.nodes.bump {
+        let x = node_in(img, i);
+        let next = x.left;
+        return Head {
+            passes: free_node(img, h, i, x),
+            next,
+        };
     }
-    let x = node_in(img, NodeIndex(head));
-    x.left
+    Head {
+        passes: fresh_node(img, n, i),
+        next: NodeIndex(i.0 + 1),
+    }
 }
 
 // The value record that is taken.
 fn taken_value(img: &[u8], m: u32, n: u32, h: Header, j: ValueIndex) -> bool
+    requires { ⌜ Ready m n h (length (words (now img))) ⌝ }
     ensures { λ r. ⌜ r ≡ takenValue m n h (words (now (img .entry))) (j .0) ⌝ }
 {
     if j.0 < h.values.bump {
         return free_value(h, j, value_record(img, n, j));
     }
-    let a = Arena::Values {
-        nodes: n,
-        values: m,
-    };
-    (j.0 <= m) & never_used(img, a, j.0)
+    if j.0 <= m {
+        let a = Arena::Values {
+            nodes: n,
+            values: m,
+        };
+        return never_used(img, a, j.0);
+    }
+    false
 }
 
-// The records that are taken at a split: two nodes and a value record.
-fn taken_records(img: &[u8], m: u32, n: u32, h: Header) -> bool
-    requires { ⌜ Ready h (length (words (now img))) ⌝ }
-    ensures { λ r. ⌜ r ≡ takenNode n h (words (now (img .entry))) (h .nodes .head) && (takenNode n h (words (now (img .entry))) (nextNode h (words (now (img .entry))) (h .nodes .head)) && takenValue m n h (words (now (img .entry))) (h .values .head)) ⌝ }
+// The records that a leaf takes: a node and a value record.
+fn leaf_tests(img: &[u8], m: u32, n: u32, h: Header) -> bool
+    requires { ⌜ Ready m n h (length (words (now img))) ⌝ }
+    ensures { λ r. ⌜ r ≡ leafTests m n h (words (now (img .entry))) ⌝ }
 {
-    if taken_node(img, n, h, NodeIndex(h.nodes.head)) {
-        let second = next_node(img, h);
-        return taken_node(img, n, h, second) & taken_value(img, m, n, h, ValueIndex(h.values.head));
+    taken_node(img, m, n, h, NodeIndex(h.nodes.head))
+        & taken_value(img, m, n, h, ValueIndex(h.values.head))
+}
+
+// The records that a split takes: those of the leaf, and a second node.
+fn split_tests(img: &[u8], m: u32, n: u32, h: Header) -> bool
+    requires { ⌜ Ready m n h (length (words (now img))) ⌝ }
+    ensures { λ r. ⌜ r ≡ splitTests m n h (words (now (img .entry))) ⌝ }
+{
+    let head = head_node(img, m, n, h);
+    if head.passes & taken_value(img, m, n, h, ValueIndex(h.values.head)) {
+        return taken_node(img, m, n, h, head.next);
     }
     false
 }
 
 // ---- the plan
 
-// Into the empty map.
-fn first_plan(img: &[u8], m: u32, n: u32, h: Header) -> Plan
-    requires { ⌜ Ready h (length (words (now img))) ⌝ }
-    ensures { λ r. ⌜ r ≡ firstPlan m n h (words (now (img .entry))) ⌝ }
+// At node `i`, whose record is `x`, where the key parts from the map.
+fn split_plan(img: &[u8], m: u32, n: u32, h: Header, i: NodeIndex, x: Node, shared: u64) -> Plan
+    requires { ⌜ Ready m n h (length (words (now img))) ⌝ }
+    ensures { λ r. ⌜ r ≡ stopPlan m n h (words (now (img .entry))) (Parted i x shared) ⌝ }
 {
-    let i = NodeIndex(h.nodes.head);
-    let j = ValueIndex(h.values.head);
-    if taken_node(img, n, h, i) & taken_value(img, m, n, h, j) {
-        return Plan::First;
+    if kids_ok(img, h, i, x) & split_tests(img, m, n, h) {
+        return Plan::Split(h, i, x, shared);
     }
     Plan::Refused(Refusal::Damaged)
 }
 
 // At the equal leaf.
-fn replace_plan(img: &[u8], n: u32, i: NodeIndex, j: ValueIndex) -> Plan
-    ensures { λ r. ⌜ r ≡ cond (liveValue (valueRecordOf n (words (now (img .entry))) (j .0))) (Replace i j) (Refused Damaged) ⌝ }
+fn replace_plan(img: &[u8], m: u32, n: u32, h: Header, i: NodeIndex, x: Node) -> Plan
+    ensures { λ r. ⌜ r ≡ stopPlan m n h (words (now (img .entry))) (Leaf i x) ⌝ }
 {
-    if live_value(value_record(img, n, j)) {
-        return Plan::Replace(i, j);
+    let j = x.value;
+    match live_value(img, n, i, j) {
+        Live::Holds(_) => Plan::Replace(i, j),
+        Live::Not => Plan::Refused(Refusal::Damaged),
     }
-    Plan::Refused(Refusal::Damaged)
 }
 
-// At the node where the key parts from the map.
-fn split_plan(img: &[u8], m: u32, n: u32, h: Header, i: NodeIndex) -> Plan
-    requires { ⌜ Ready h (length (words (now img))) × (usedNode h (i .0) ≡ true) ⌝ }
-    ensures { λ r. ⌜ r ≡ stopPlan m n h (words (now (img .entry))) (Parted i) ⌝ }
+// Into the empty map.
+fn first_plan(img: &[u8], m: u32, n: u32, h: Header) -> Plan
+    requires { ⌜ Ready m n h (length (words (now img))) ⌝ }
+    ensures { λ r. ⌜ r ≡ stopPlan m n h (words (now (img .entry))) Empty ⌝ }
 {
-    if kids_ok(img, h, i, node_in(img, i)) & taken_records(img, m, n, h) {
-        return Plan::Split(i);
+    if leaf_tests(img, m, n, h) {
+        return Plan::First(h);
     }
     Plan::Refused(Refusal::Damaged)
 }
 
 fn plan_of(img: &[u8], m: u32, n: u32, h: Header, key: Key) -> Plan
-    requires { ⌜ Ready h (length (words (now img))) ⌝ }
-    ensures { λ r. ⌜ r ≡ planOf m n h (words (now (img .entry))) key ⌝ }
+    requires { ⌜ Ready m n h (length (words (now img))) ⌝ }
+    ensures { λ r. ⌜ r ≡ insertPlan m n h (words (now (img .entry))) key ⌝ }
 {
-    if h.values.size == 0 {
-        return first_plan(img, m, n, h);
-    }
     if h.values.size == (m as u64) {
         return Plan::Refused(Refusal::Full);
     }
     match find(img, h, key) {
-        Stop::Leaf(i, j) => replace_plan(img, n, i, j),
-        Stop::Parted(i) => split_plan(img, m, n, h, i),
+        Stop::Parted(i, x, shared) => split_plan(img, m, n, h, i, x, shared),
+        Stop::Leaf(i, x) => replace_plan(img, m, n, h, i, x),
+        Stop::Empty => first_plan(img, m, n, h),
         Stop::Damaged => Plan::Refused(Refusal::Damaged),
     }
 }

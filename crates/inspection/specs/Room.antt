@@ -66,6 +66,10 @@ pub shaped-opens : (m n : ℕ) (ws : List ℕ) (h : Header) → shapeOk m n (len
 unfolding openOf
 shaped-opens m n ws h s e = rw s e
 
+pub shaped-shut : (m n : ℕ) (ws : List ℕ) (r : Refusal) → shapeOk m n (length ws) ≡ true → openShaped m n ws ≡ Shut r → openOf m n ws ≡ Shut r
+unfolding openOf
+shaped-shut m n ws r s e = rw s e
+
 -- the bumps of a header that passes
 pub node-bump : (m n : ℕ) (h : Header) → headerOk m n h ≡ true → h .nodes .bump ≤ n + 1
 unfolding headerOk arenaOk

@@ -183,3 +183,25 @@ unfolding nodeOk formOk
 passed h ws i above low e =
     let l : low ≤ nodeOf ws i .prefix = leb-true low (nodeOf ws i .prefix) (search (and-l, and-r)) in
     ⊎-elim (leaf-passed h low (nodeOf ws i) l) (fork-passed low (nodeOf ws i) l) (or-cases (isLeaf h (nodeOf ws i)) (isFork (nodeOf ws i)) (search (and-l, and-r) depth 8))
+
+-- an inner node that a visit gives has a next bit, and one that a listing pops too
+pub visit-passed : (h : Header) (ws : List ℕ) (i above low : ℕ) (x : Node) → visitOf h ws i above low ≡ Inner x → (low ≤ x .prefix) × (x .prefix < 128)
+visit-passed h ws i above low x e =
+    let same = came-node h ws i above low x (inl e) in
+    let p = passed h ws i above low (came-through h ws i above low x (inl e)) in
+    (rw same (p .rises), rw same (p .inner (eqb-true (nodeOf ws i .value .0) 0 (rw (sym same) (came-inner h ws i above low x e)))))
+
+own-ok : (h : Header) (ws : List ℕ) (i : ℕ) → formOk h ws i ≡ true → nodeOk h ws i (nodeOf ws i .parent .0) 0 ≡ true
+unfolding nodeOk
+own-ok h ws i e = rw (e, eq-eqb (nodeOf ws i .parent .0) (nodeOf ws i .parent .0) refl) (le-leb 0 (nodeOf ws i .prefix) (omega arith))
+
+pub first-passed : (h : Header) (ws : List ℕ) (i : ℕ) (x : Node) → firstOf h ws i ≡ Inner x → x .prefix < 128
+unfolding firstOf
+first-passed h ws i x e = go (formOk h ws i) (eqb (nodeOf ws i .value .0) 0) refl refl e
+  where
+    go : (a b : Bool) → formOk h ws i ≡ a → eqb (nodeOf ws i .value .0) 0 ≡ b → cond a (cond b (Inner (nodeOf ws i)) (Leaf (nodeOf ws i))) Damaged ≡ Inner x → x .prefix < 128
+    go false b t q d = let z : _≡_ {A = ℕ} 0 1 = cc in absurd (omega arith)
+    go true false t q d = let z : _≡_ {A = ℕ} 0 1 = cc in absurd (omega arith)
+    go true true t q d =
+        let same : nodeOf ws i ≡ x = cc in
+        rw (sym same) (passed h ws i (nodeOf ws i .parent .0) 0 (own-ok h ws i t) .inner (eqb-true (nodeOf ws i .value .0) 0 q))

@@ -15,10 +15,14 @@ use Rattle.records.specs.declared.Refusal.the-variants as no
 use Rattle.records.specs.declared.Entry.the-variants as entry
 use Rattle.inspection.specs.declared.Opened.{Opened}
 use Rattle.inspection.specs.declared.Opened.the-variants.{Good, Shut}
-use Rattle.records.specs.Records.{nodeOf, valueRecordOf}
-use Rattle.inspection.specs.Tests.{shapeOk, liveValue}
+use Rattle.records.specs.declared.Node.{Node}
+use Rattle.inspection.specs.declared.Visited.{Visited}
+use Rattle.inspection.specs.declared.Visited.the-variants as visited
+use Rattle.inspection.specs.declared.Live.{Live}
+use Rattle.inspection.specs.declared.Live.the-variants as live
+use Rattle.inspection.specs.Tests.{shapeOk}
+use Rattle.inspection.specs.Visit.{liveOf}
 use Rattle.inspection.specs.Opening.{openOf}
-use Rattle.inspection.specs.Answers.{Opens, misshapen, unsound, sound, opens}
 use Rattle.listing.specs.declared.Stack.{Stack}
 use Rattle.listing.specs.declared.Position.{Position}
 use Rattle.listing.specs.declared.Reached.{Reached}
@@ -26,24 +30,24 @@ use Rattle.listing.specs.declared.Given.{Given}
 use Rattle.listing.specs.declared.Moved.{Moved}
 use Rattle.listing.specs.declared.Stepped.{Stepped}
 use Rattle.listing.specs.Position.{mostPlaces}
-use Rattle.listing.specs.Step.{leafMoved, openedMoved, movedOf, nearEnd, farEnd, withNear, refusedStep, openedStep, stepOf}
+use Rattle.listing.specs.Step.{liveMoved, leafMoved, cameMoved, openedMoved, movedOf, nearEnd, farEnd, withNear, refusedStep, openedStep, stepOf}
 
 -- ---- what the leaf comes to, without the stack
 
-unfoldable pub givenOf : ℕ → List ℕ → Bool → NodeIndex → ValueIndex → ValueIndex → Given
-givenOf n ws good leaf last other =
-    cond good
-    (cond (eqb (nodeOf ws (leaf .0) .value .0) (other .0))
+abbrev pub stuck : ValueIndex → Given
+stuck last = record { moves = false; ended = false; last = last; entry = entry.Refused no.Damaged }
+
+unfoldable pub liveGiven : Node → ValueIndex → Live → Given
+liveGiven x last (live.Holds v) = record { moves = true; ended = false; last = x .value; entry = entry.Is (x .key) v }
+liveGiven x last live.Not = stuck last
+
+unfoldable pub givenOf : ℕ → List ℕ → Visited → NodeIndex → ValueIndex → ValueIndex → Given
+givenOf n ws (visited.Leaf x) leaf last other =
+    cond (eqb (x .value .0) (other .0))
     (record { moves = true; ended = true; last = last; entry = entry.Refused no.Absent })
-    (cond (liveValue (valueRecordOf n ws (nodeOf ws (leaf .0) .value .0)))
-    (record {
-      moves = true;
-      ended = false;
-      last = nodeOf ws (leaf .0) .value;
-      entry = entry.Is (nodeOf ws (leaf .0) .key) (valueRecordOf n ws (nodeOf ws (leaf .0) .value .0) .value);
-    })
-    (record { moves = false; ended = false; last = last; entry = entry.Refused no.Damaged })))
-    (record { moves = false; ended = false; last = last; entry = entry.Refused no.Damaged })
+    (liveGiven x last (liveOf n ws (leaf .0) (x .value .0)))
+givenOf n ws (visited.Inner x) leaf last other = stuck last
+givenOf n ws visited.Damaged leaf last other = stuck last
 
 -- the stack as opened where it moves, as it came where it does not
 abbrev pub given : Stack → Reached → Given → Moved
@@ -55,73 +59,40 @@ given s o g = record {
 
 -- where it does not move, what was opened does not matter
 pub given-moved : (n : ℕ) (ws : List ℕ) (s : Stack) (other : ValueIndex) (o : Reached)
-    → openedMoved n ws s other o ≡ given s o (givenOf n ws (o .sound) (o .leaf) (s .last) other)
-unfolding openedMoved leafMoved givenOf
-given-moved n ws s other o =
-    go (o .sound) (eqb (nodeOf ws (o .leaf .0) .value .0) (other .0)) (liveValue (valueRecordOf n ws (nodeOf ws (o .leaf .0) .value .0)))
+    → openedMoved n ws s other o ≡ given s o (givenOf n ws (o .came) (o .leaf) (s .last) other)
+unfolding openedMoved leafMoved liveMoved givenOf liveGiven
+given-moved n ws s other o = go (o .came)
   where
-    met : Moved
-    met = record { near = record { places = o .places; count = o .count; last = s .last }; ended = true; entry = entry.Refused no.Absent }
+    by-live : (x : Node) (l : Live) → liveMoved s o x l ≡ given s o (liveGiven x (s .last) l)
+    by-live x (live.Holds v) = refl
+    by-live x live.Not = refl
 
-    found : Moved
-    found = record {
-      near = record { places = o .places; count = o .count; last = nodeOf ws (o .leaf .0) .value };
-      ended = false;
-      entry = entry.Is (nodeOf ws (o .leaf .0) .key) (valueRecordOf n ws (nodeOf ws (o .leaf .0) .value .0) .value);
-    }
+    meet : (x : Node) (b : Bool) (l : Live)
+        → cond b (record { near = record { places = o .places; count = o .count; last = s .last }; ended = true; entry = entry.Refused no.Absent }) (liveMoved s o x l)
+        ≡ given s o (cond b (record { moves = true; ended = true; last = s .last; entry = entry.Refused no.Absent }) (liveGiven x (s .last) l))
+    meet x true l = refl
+    meet x false l = by-live x l
 
-    lost : Moved
-    lost = record { near = s; ended = false; entry = entry.Refused no.Damaged }
-
-    go : (a b c : Bool) → cond a (cond b met (cond c found lost)) lost
-        ≡ given s o
-        (cond a
-        (cond b
-        (record { moves = true; ended = true; last = s .last; entry = entry.Refused no.Absent })
-        (cond c
-        (record {
-          moves = true;
-          ended = false;
-          last = nodeOf ws (o .leaf .0) .value;
-          entry = entry.Is (nodeOf ws (o .leaf .0) .key) (valueRecordOf n ws (nodeOf ws (o .leaf .0) .value .0) .value);
-        })
-        (record { moves = false; ended = false; last = s .last; entry = entry.Refused no.Damaged })))
-        (record { moves = false; ended = false; last = s .last; entry = entry.Refused no.Damaged }))
-    go true true c = refl
-    go true false true = refl
-    go true false false = refl
-    go false b c = refl
+    go : (came : Visited) → cameMoved n ws s other o came ≡ given s o (givenOf n ws came (o .leaf) (s .last) other)
+    go (visited.Leaf x) = meet x (eqb (x .value .0) (other .0)) (liveOf n ws (o .leaf .0) (x .value .0))
+    go (visited.Inner x) = refl
+    go visited.Damaged = refl
 
 -- ---- an end's step
-
--- what is wrong with a position comes between the shape and the header
-unfoldable pub turnedAway : Refusal → Bool → Refusal
-turnedAway no.Shape s = no.Shape
-turnedAway no.Damaged s = cond s no.Damaged no.Cursor
-turnedAway no.Full s = cond s no.Full no.Cursor
-turnedAway no.Absent s = cond s no.Absent no.Cursor
-turnedAway no.NotBlank s = cond s no.NotBlank no.Cursor
-turnedAway no.Cursor s = no.Cursor
-
-pub turned-sound : (r : Refusal) → turnedAway r true ≡ r
-unfolding turnedAway
-turned-sound no.Shape = refl
-turned-sound no.Damaged = refl
-turned-sound no.Full = refl
-turned-sound no.Absent = refl
-turned-sound no.NotBlank = refl
-turned-sound no.Cursor = refl
 
 abbrev pub stayed : Stack → Bool → Refusal → Moved
 stayed s ended r = record { near = s; ended = ended; entry = entry.Refused r }
 
--- the opened image: the position's counts, then the end itself
-unfoldable pub openedEnd : Bool → ℕ → List ℕ → Bool → Stack → ValueIndex → Bool → Opened → Moved
-openedEnd back n ws ended s other fit (Good h) = cond fit (movedOf back n h ws ended s other) (stayed s ended no.Cursor)
-openedEnd back n ws ended s other fit (Shut r) = stayed s ended (turnedAway r fit)
+unfoldable pub openedEnd : Bool → ℕ → List ℕ → Bool → Stack → ValueIndex → Opened → Moved
+openedEnd back n ws ended s other (Good h) = movedOf back n h ws ended s other
+openedEnd back n ws ended s other (Shut r) = stayed s ended r
 
+-- the shape, then the position's counts, then the header
 unfoldable pub endStep : Bool → ℕ → ℕ → List ℕ → Bool → Stack → ℕ → ValueIndex → Moved
-endStep back m n ws ended s held other = openedEnd back n ws ended s other (leb (s .count) mostPlaces && leb held mostPlaces) (openOf m n ws)
+endStep back m n ws ended s held other =
+    cond (shapeOk m n (length ws))
+    (cond (leb (s .count) mostPlaces && leb held mostPlaces) (openedEnd back n ws ended s other (openOf m n ws)) (stayed s ended no.Cursor))
+    (stayed s ended no.Shape)
 
 -- the position's step is its near end's
 abbrev pub assembled : Bool → Position → Moved → Stepped
@@ -131,39 +102,15 @@ abbrev pub nearStep : Bool → ℕ → ℕ → List ℕ → Position → Moved
 nearStep back m n ws p = endStep back m n ws (p .ended) (nearEnd back p) (farEnd back p .count) (farEnd back p .last)
 
 module _ (n : ℕ) (ws : List ℕ) (p : Position) where
-  end-opened : (b f : Bool) (o : Opened) → o ≢ Shut no.Shape
-      → cond f (openedStep b n ws p o) (refusedStep p no.Cursor) ≡ assembled b p (openedEnd b n ws (p .ended) (nearEnd b p) (farEnd b p .last) f o)
-  unfolding openedStep openedEnd turnedAway
-  end-opened true true (Good h) d = refl
-  end-opened true false (Good h) d = refl
-  end-opened false true (Good h) d = refl
-  end-opened false false (Good h) d = refl
-  end-opened b f (Shut no.Shape) d = absurd (d refl)
-  end-opened true true (Shut no.Damaged) d = refl
-  end-opened true false (Shut no.Damaged) d = refl
-  end-opened false true (Shut no.Damaged) d = refl
-  end-opened false false (Shut no.Damaged) d = refl
-  end-opened true true (Shut no.Full) d = refl
-  end-opened true false (Shut no.Full) d = refl
-  end-opened false true (Shut no.Full) d = refl
-  end-opened false false (Shut no.Full) d = refl
-  end-opened true true (Shut no.Absent) d = refl
-  end-opened true false (Shut no.Absent) d = refl
-  end-opened false true (Shut no.Absent) d = refl
-  end-opened false false (Shut no.Absent) d = refl
-  end-opened true true (Shut no.NotBlank) d = refl
-  end-opened true false (Shut no.NotBlank) d = refl
-  end-opened false true (Shut no.NotBlank) d = refl
-  end-opened false false (Shut no.NotBlank) d = refl
-  end-opened true true (Shut no.Cursor) d = refl
-  end-opened true false (Shut no.Cursor) d = refl
-  end-opened false true (Shut no.Cursor) d = refl
-  end-opened false false (Shut no.Cursor) d = refl
+  end-refused : (b : Bool) (r : Refusal) → refusedStep p r ≡ assembled b p (stayed (nearEnd b p) (p .ended) r)
+  end-refused true r = refl
+  end-refused false r = refl
 
-  end-misshapen : (b f : Bool) → refusedStep p no.Shape ≡ assembled b p (openedEnd b n ws (p .ended) (nearEnd b p) (farEnd b p .last) f (Shut no.Shape))
-  unfolding openedEnd turnedAway
-  end-misshapen true f = refl
-  end-misshapen false f = refl
+  end-opened : (b : Bool) (o : Opened) → openedStep b n ws p o ≡ assembled b p (openedEnd b n ws (p .ended) (nearEnd b p) (farEnd b p .last) o)
+  unfolding openedStep openedEnd
+  end-opened true (Good h) = refl
+  end-opened false (Good h) = refl
+  end-opened b (Shut r) = end-refused b r
 
   -- both counts fit, whichever is asked first
   fits : (b : Bool) → leb (nearEnd b p .count) mostPlaces && leb (farEnd b p .count) mostPlaces ≡ leb (p .front .count) mostPlaces && leb (p .back .count) mostPlaces
@@ -178,13 +125,13 @@ module _ (n : ℕ) (ws : List ℕ) (p : Position) where
 
   pub end-step : (b : Bool) (m : ℕ) → stepOf b m n ws p ≡ assembled b p (nearStep b m n ws p)
   unfolding stepOf endStep
-  end-step b m = go (opens m n ws)
+  end-step b m = rw (fits b) (go (shapeOk m n (length ws)) (leb (p .front .count) mostPlaces && leb (p .back .count) mostPlaces))
     where
-      fit : Bool
-      fit = leb (p .front .count) mostPlaces && leb (p .back .count) mostPlaces
-
-      go : Opens m n ws → cond (shapeOk m n (length ws)) (cond fit (openedStep b n ws p (openOf m n ws)) (refusedStep p no.Cursor)) (refusedStep p no.Shape)
-          ≡ assembled b p (openedEnd b n ws (p .ended) (nearEnd b p) (farEnd b p .last) (leb (nearEnd b p .count) mostPlaces && leb (farEnd b p .count) mostPlaces) (openOf m n ws))
-      go (misshapen e o) = rw (fits b, e, o) (end-misshapen b fit)
-      go (unsound e h o) = rw (fits b, e, o) (end-opened b fit (Shut no.Damaged) (λ q. let z : _≡_ {A = ℕ} 0 1 = cc in absurd (omega arith)))
-      go (sound h e k o) = rw (fits b, e, o) (end-opened b fit (Good h) (λ q. let z : _≡_ {A = ℕ} 0 1 = cc in absurd (omega arith)))
+      go : (shape fit : Bool) → cond shape (cond fit (openedStep b n ws p (openOf m n ws)) (refusedStep p no.Cursor)) (refusedStep p no.Shape)
+          ≡ assembled b p
+          (cond shape
+          (cond fit (openedEnd b n ws (p .ended) (nearEnd b p) (farEnd b p .last) (openOf m n ws)) (stayed (nearEnd b p) (p .ended) no.Cursor))
+          (stayed (nearEnd b p) (p .ended) no.Shape))
+      go true true = end-opened b (openOf m n ws)
+      go true false = end-refused b no.Cursor
+      go false fit = end-refused b no.Shape

@@ -1,4 +1,4 @@
--- Making a position: document 01, "Making a position tests shape and header only; in an empty map it succeeds with empty stacks". A refused making gives a position of zeros.
+-- Making a position: rule L5. It tests shape and header only; in an empty map it succeeds with empty stacks. A refused making gives a position of zeros.
 use mathlib.Core.List.{List}
 use mathlib.Core.Bool.{Bool, false, cond}
 use Prim.Native.Nat.{ℕ}

@@ -9,6 +9,7 @@ use native.Mathlib.Omega.{arith}
 use lib.ListN.{length}
 use lib.Dec.{eqb, leb}
 use Rattle.records.specs.declared.Header.{Header}
+use Rattle.records.specs.declared.ValueIndex.{ValueIndex}
 use Rattle.records.specs.declared.Refusal.{Refusal}
 use Rattle.records.specs.declared.Refusal.the-variants as no
 use Rattle.records.specs.declared.Entry.{Entry}
@@ -16,8 +17,13 @@ use Rattle.records.specs.declared.Entry.the-variants as entry
 use Rattle.inspection.specs.declared.Opened.{Opened}
 use Rattle.inspection.specs.declared.Opened.the-variants.{Good, Shut}
 use Rattle.records.specs.declared.Done.the-variants as done
-use Rattle.records.specs.Records.{headerOf, nodeOf, valueRecordOf}
-use Rattle.inspection.specs.Tests.{shapeOk, headerOk, liveValue}
+use Rattle.records.specs.declared.Node.{Node}
+use Rattle.records.specs.Records.{headerOf, valueRecordOf}
+use Rattle.inspection.specs.declared.Visited.{Visited}
+use Rattle.inspection.specs.declared.Visited.the-variants as visited
+use Rattle.inspection.specs.declared.Live.the-variants as live
+use Rattle.inspection.specs.Visit.{liveOf}
+use Rattle.inspection.specs.Tests.{shapeOk, topOk, liveValue}
 use Rattle.inspection.specs.Opening.{openOf}
 use Rattle.records.specs.Numbers.{refusalNumber, doneNumber, entryNumber, entryKey, entryValue, zeroKey, zeroValue}
 use Rattle.inspection.specs.Room.{open-header}
@@ -29,14 +35,14 @@ use Rattle.listing.specs.declared.Reached.{Reached}
 use Rattle.listing.specs.declared.Moved.{Moved}
 use Rattle.listing.specs.declared.Stepped.{Stepped}
 use Rattle.listing.specs.Position.{mostPlaces, emptyStack, bothEnds, openedMade, madeOf}
-use Rattle.listing.specs.Step.{popTo, leafMoved, openedMoved, movedOf, nearEnd, farEnd, withNear, refusedStep, openedStep, stepOf}
+use Rattle.listing.specs.Step.{popTo, lost, liveMoved, leafMoved, cameMoved, openedMoved, movedOf, nearEnd, farEnd, withNear, refusedStep, openedStep, stepOf}
 
 -- ---- making a position: 1 and 2 are shape and header, and nothing else refuses
 
 pub made-numbers : (m n : ℕ) (ws : List ℕ)
     → ((doneNumber (madeOf m n ws .answer) ≡ 1) ↔ (shapeOk m n (length ws) ≡ false))
-    × ((doneNumber (madeOf m n ws .answer) ≡ 2) ↔ ((shapeOk m n (length ws) ≡ true) × (headerOk m n (headerOf n ws) ≡ false)))
-    × ((doneNumber (madeOf m n ws .answer) ≡ 0) ↔ ((shapeOk m n (length ws) ≡ true) × (headerOk m n (headerOf n ws) ≡ true)))
+    × ((doneNumber (madeOf m n ws .answer) ≡ 2) ↔ ((shapeOk m n (length ws) ≡ true) × (topOk m n ws ≡ false)))
+    × ((doneNumber (madeOf m n ws .answer) ≡ 0) ↔ ((shapeOk m n (length ws) ≡ true) × (topOk m n ws ≡ true)))
 unfolding madeOf openedMade doneNumber refusalNumber
 made-numbers m n ws = go (opens m n ws)
   where
@@ -60,8 +66,8 @@ made-numbers m n ws = go (opens m n ws)
       ((λ e. (refl, refl)), λ e. refl),
     )
 
-    go : Opens m n ws → Goal (shapeOk m n (length ws)) (headerOk m n (headerOf n ws)) (doneNumber (openedMade (openOf m n ws) .answer))
-    go (misshapen e o) = rw (e, o) (by false (headerOk m n (headerOf n ws)))
+    go : Opens m n ws → Goal (shapeOk m n (length ws)) (topOk m n ws) (doneNumber (openedMade (openOf m n ws) .answer))
+    go (misshapen e o) = rw (e, o) (by false (topOk m n ws))
     go (unsound e h o) = rw (e, h, o) (by true false)
     go (sound h e k o) = rw (e, k, o) (by true true)
 
@@ -157,6 +163,52 @@ decided true true true false true false false =
       gives = ((λ e. absurd (omega arith)), λ e. absurd (true≢false (sym (e .6))));
     }
 
+-- a leaf came: every node that was popped or opened passes
+abbrev pub leafCame : Visited → Bool
+leafCame (visited.Leaf x) = true
+leafCame (visited.Inner x) = false
+leafCame visited.Damaged = false
+
+-- the leaf names this value record
+abbrev pub namesIn : ℕ → Visited → Bool
+namesIn j (visited.Leaf x) = eqb (x .value .0) j
+namesIn j (visited.Inner x) = false
+namesIn j visited.Damaged = false
+
+-- the leaf's value record passes
+abbrev pub livesIn : ℕ → List ℕ → ℕ → Visited → Bool
+livesIn n ws leaf (visited.Leaf x) = liveValue n ws leaf (x .value .0)
+livesIn n ws leaf (visited.Inner x) = false
+livesIn n ws leaf visited.Damaged = false
+
+module _ (n : ℕ) (ws : List ℕ) (s : Stack) (far : ValueIndex) (o : Reached) where
+  abbrev by-record : Node → Bool → Moved
+  by-record x b = liveMoved s o x (cond b (live.Holds (valueRecordOf n ws (x .value .0) .value)) live.Not)
+
+  leaf-number : (x : Node) (c d : Bool) (y : Moved) → entryNumber (y .entry) ≡ 4 → entryNumber (cond c y (by-record x d) .entry) ≡ cond c 4 (cond d 0 2)
+  unfolding liveMoved entryNumber refusalNumber
+  leaf-number x true d y e = e
+  leaf-number x false true y e = refl
+  leaf-number x false false y e = refl
+
+  came-number : (v : Visited) → entryNumber (cameMoved n ws s far o v .entry) ≡ cond (leafCame v) (cond (namesIn (far .0) v) 4 (cond (livesIn n ws (o .leaf .0) v) 0 2)) 2
+  unfolding leafMoved liveOf entryNumber refusalNumber
+  came-number (visited.Leaf x) = leaf-number x (eqb (x .value .0) (far .0)) (liveValue n ws (o .leaf .0) (x .value .0)) _ refl
+  came-number (visited.Inner x) = refl
+  came-number visited.Damaged = refl
+
+  leaf-lost : (x : Node) (c d : Bool) (y : Moved) → entryNumber (y .entry) ≡ 4 → entryNumber (cond c y (by-record x d) .entry) ≡ 2 → cond c y (by-record x d) ≡ lost s
+  unfolding liveMoved entryNumber refusalNumber
+  leaf-lost x true d y e q = absurd (omega arith)
+  leaf-lost x false true y e q = absurd (omega arith)
+  leaf-lost x false false y e q = refl
+
+  came-lost : (v : Visited) → entryNumber (cameMoved n ws s far o v .entry) ≡ 2 → cameMoved n ws s far o v ≡ lost s
+  unfolding leafMoved liveOf entryNumber refusalNumber
+  came-lost (visited.Leaf x) e = leaf-lost x (eqb (x .value .0) (far .0)) (liveValue n ws (o .leaf .0) (x .value .0)) _ refl e
+  came-lost (visited.Inner x) e = refl
+  came-lost visited.Damaged e = refl
+
 module _ (back : Bool) (m n : ℕ) (ws : List ℕ) (p : Position) where
   -- both counts are at most 129
   abbrev pub fits : Bool
@@ -166,41 +218,41 @@ module _ (back : Bool) (m n : ℕ) (ws : List ℕ) (p : Position) where
   abbrev pub ends : Bool
   ends = p .ended || eqb (nearEnd back p .count) 0
 
-  -- the popped node and those that were opened after it; `sound` where all of them pass
+  -- the popped node and those that were opened after it
   abbrev pub reached : Reached
   reached = popTo back (headerOf n ws) ws (nearEnd back p)
 
+  -- all of them pass, and a leaf came
+  abbrev pub good : Bool
+  good = leafCame (reached .came)
+
   -- the leaf names the value record that the other end gave last
   abbrev pub meets : Bool
-  meets = eqb (nodeOf ws (reached .leaf .0) .value .0) (farEnd back p .last .0)
+  meets = namesIn (farEnd back p .last .0) (reached .came)
 
   abbrev pub lives : Bool
-  lives = liveValue (valueRecordOf n ws (nodeOf ws (reached .leaf .0) .value .0))
+  lives = livesIn n ws (reached .leaf .0) (reached .came)
 
-  pick : (a b c d : Bool) (x y z v w : Moved) → entryNumber (x .entry) ≡ 4 → entryNumber (y .entry) ≡ 4 → entryNumber (z .entry) ≡ 0 → entryNumber (v .entry) ≡ 2 → entryNumber (w .entry) ≡ 2
-      → entryNumber (cond a x (cond b (cond c y (cond d z v)) w) .entry) ≡ cond a 4 (cond b (cond c 4 (cond d 0 2)) 2)
-  pick true b c d x y z v w i j k l o = i
-  pick false true true d x y z v w i j k l o = j
-  pick false true false true x y z v w i j k l o = k
-  pick false true false false x y z v w i j k l o = l
-  pick false false c d x y z v w i j k l o = o
+  pick : (a : Bool) (x y : Moved) (k : ℕ) → entryNumber (x .entry) ≡ 4 → entryNumber (y .entry) ≡ k → entryNumber (cond a x y .entry) ≡ cond a 4 k
+  pick true x y k e f = e
+  pick false x y k e f = f
 
   moved-number : entryNumber (movedOf back n (headerOf n ws) ws (p .ended) (nearEnd back p) (farEnd back p .last) .entry)
-      ≡ cond ends 4 (cond (reached .sound) (cond meets 4 (cond lives 0 2)) 2)
-  unfolding movedOf openedMoved leafMoved entryNumber refusalNumber
-  moved-number = pick ends (reached .sound) meets lives _ _ _ _ _ refl refl refl refl refl
+      ≡ cond ends 4 (cond good (cond meets 4 (cond lives 0 2)) 2)
+  unfolding movedOf openedMoved entryNumber refusalNumber
+  moved-number = pick ends _ _ _ refl (came-number n ws (nearEnd back p) (farEnd back p .last) reached (reached .came))
 
   turn : (f : Bool) (x y : Stepped) (k : ℕ) → entryNumber (x .entry) ≡ k → entryNumber (y .entry) ≡ 6 → entryNumber (cond f x y .entry) ≡ cond f k 6
   turn true x y k e g = e
   turn false x y k e g = g
 
-  step-number : entryNumber (stepOf back m n ws p .entry) ≡ numbered (shapeOk m n (length ws)) fits (headerOk m n (headerOf n ws)) ends (reached .sound) meets lives
+  step-number : entryNumber (stepOf back m n ws p .entry) ≡ numbered (shapeOk m n (length ws)) fits (topOk m n ws) ends good meets lives
   unfolding stepOf openedStep entryNumber refusalNumber
   step-number = go (opens m n ws)
     where
       go : Opens m n ws
           → entryNumber (cond (shapeOk m n (length ws)) (cond fits (openedStep back n ws p (openOf m n ws)) (refusedStep p no.Cursor)) (refusedStep p no.Shape) .entry)
-          ≡ numbered (shapeOk m n (length ws)) fits (headerOk m n (headerOf n ws)) ends (reached .sound) meets lives
+          ≡ numbered (shapeOk m n (length ws)) fits (topOk m n ws) ends good meets lives
       go (misshapen e o) = rw e
       go (unsound e h o) = rw (e, h, o) (turn fits (refusedStep p no.Damaged) (refusedStep p no.Cursor) 2 refl refl)
       go (sound h e k o) =
@@ -208,19 +260,15 @@ module _ (back : Bool) (m n : ℕ) (ws : List ℕ) (p : Position) where
           rw (e, k, same) (turn fits (openedStep back n ws p (Good (headerOf n ws))) (refusedStep p no.Cursor) _ moved-number refl)
 
   -- the numbers of a step, at either end
-  pub step-numbers : Numbers (shapeOk m n (length ws)) fits (headerOk m n (headerOf n ws)) ends (reached .sound) meets lives (entryNumber (stepOf back m n ws p .entry))
-  step-numbers = rw step-number (decided (shapeOk m n (length ws)) fits (headerOk m n (headerOf n ws)) ends (reached .sound) meets lives)
+  pub step-numbers : Numbers (shapeOk m n (length ws)) fits (topOk m n ws) ends good meets lives (entryNumber (stepOf back m n ws p .entry))
+  step-numbers = rw step-number (decided (shapeOk m n (length ws)) fits (topOk m n ws) ends good meets lives)
 
   -- ---- what a refusal leaves
 
-  pick-kept : (a b c d : Bool) (x y z v w : Moved) → entryNumber (x .entry) ≡ 4 → entryNumber (y .entry) ≡ 4 → entryNumber (z .entry) ≡ 0
-      → (a ≡ false → withNear back p v ≡ p) → (a ≡ false → withNear back p w ≡ p)
-      → entryNumber (cond a x (cond b (cond c y (cond d z v)) w) .entry) ≡ 2 → withNear back p (cond a x (cond b (cond c y (cond d z v)) w)) ≡ p
-  pick-kept true b c d x y z v w i j k l o e = absurd (omega arith)
-  pick-kept false true true d x y z v w i j k l o e = absurd (omega arith)
-  pick-kept false true false true x y z v w i j k l o e = absurd (omega arith)
-  pick-kept false true false false x y z v w i j k l o e = l refl
-  pick-kept false false c d x y z v w i j k l o e = o refl
+  pick-kept : (a : Bool) (x y : Moved) → entryNumber (x .entry) ≡ 4 → (a ≡ false → entryNumber (y .entry) ≡ 2 → withNear back p y ≡ p)
+      → entryNumber (cond a x y .entry) ≡ 2 → withNear back p (cond a x y) ≡ p
+  pick-kept true x y e f q = absurd (omega arith)
+  pick-kept false x y e f q = f refl q
 
   -- an end that stays
   stays : (b t : Bool) (given : Entry) → p .ended ≡ t → withNear b p (record { near = nearEnd b p; ended = t; entry = given }) ≡ p
@@ -233,11 +281,11 @@ module _ (back : Bool) (m n : ℕ) (ws : List ℕ) (p : Position) where
 
   moved-kept : entryNumber (movedOf back n (headerOf n ws) ws (p .ended) (nearEnd back p) (farEnd back p .last) .entry) ≡ 2
       → withNear back p (movedOf back n (headerOf n ws) ws (p .ended) (nearEnd back p) (farEnd back p .last)) ≡ p
-  unfolding movedOf openedMoved leafMoved entryNumber refusalNumber
+  unfolding movedOf openedMoved entryNumber refusalNumber
   moved-kept =
-      pick-kept ends (reached .sound) meets lives _ _ _ _ _ refl refl refl
-      (λ e. stays back false (entry.Refused no.Damaged) (not-ended (p .ended) (eqb (nearEnd back p .count) 0) e))
-      (λ e. stays back false (entry.Refused no.Damaged) (not-ended (p .ended) (eqb (nearEnd back p .count) 0) e))
+      pick-kept ends _ _ refl
+      (λ e q. ap (withNear back p) (came-lost n ws (nearEnd back p) (farEnd back p .last) reached (reached .came) q)
+      ∙ stays back false (entry.Refused no.Damaged) (not-ended (p .ended) (eqb (nearEnd back p .count) 0) e))
 
   -- a refusal other than 4 leaves every word of the position
   pub step-kept : entryNumber (stepOf back m n ws p .entry) ≢ 0 → entryNumber (stepOf back m n ws p .entry) ≢ 4 → stepOf back m n ws p .position ≡ p
@@ -256,10 +304,10 @@ module _ (back : Bool) (m n : ℕ) (ws : List ℕ) (p : Position) where
       opened true x h d e = h d e
       opened false x h d e = refl
 
-      good : entryNumber (openedStep back n ws p (Good (headerOf n ws)) .entry) ≢ 0 → entryNumber (openedStep back n ws p (Good (headerOf n ws)) .entry) ≢ 4
+      unmoved : entryNumber (openedStep back n ws p (Good (headerOf n ws)) .entry) ≢ 0 → entryNumber (openedStep back n ws p (Good (headerOf n ws)) .entry) ≢ 4
           → openedStep back n ws p (Good (headerOf n ws)) .position ≡ p
-      good d e =
-          moved-kept (moved-number ∙ few ends (reached .sound) meets lives (λ q. d (moved-number ∙ q)) (λ q. e (moved-number ∙ q)))
+      unmoved d e =
+          moved-kept (moved-number ∙ few ends good meets lives (λ q. d (moved-number ∙ q)) (λ q. e (moved-number ∙ q)))
 
       go : Opens m n ws
           → entryNumber (cond (shapeOk m n (length ws)) (cond fits (openedStep back n ws p (openOf m n ws)) (refusedStep p no.Cursor)) (refusedStep p no.Shape) .entry) ≢ 0
@@ -269,7 +317,7 @@ module _ (back : Bool) (m n : ℕ) (ws : List ℕ) (p : Position) where
       go (unsound e h o) = rw (e, o) (opened fits (refusedStep p no.Damaged) (λ f g. refl))
       go (sound h e k o) =
           let same : openOf m n ws ≡ Good (headerOf n ws) = o ∙ ap Good (sym (open-header m n ws h o)) in
-          rw (e, same) (opened fits (openedStep back n ws p (Good (headerOf n ws))) good)
+          rw (e, same) (opened fits (openedStep back n ws p (Good (headerOf n ws))) unmoved)
 
   -- and its results are zeros
   pub step-zeros : entryNumber (stepOf back m n ws p .entry) ≢ 0 → (entryKey (stepOf back m n ws p .entry) ≡ zeroKey) × (entryValue (stepOf back m n ws p .entry) ≡ zeroValue)

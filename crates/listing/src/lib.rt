@@ -2,8 +2,10 @@
 pub mod open; // open.rt: popping and opening nodes until a leaf comes
 pub mod step; // step.rt: making a position, and a step at an end
 
+use inspection::Visited;
 use records::Done;
 use records::Entry;
+use records::Node;
 use records::NodeIndex;
 use records::ValueIndex;
 
@@ -33,9 +35,17 @@ pub struct Stepped {
     pub position: Position,
 }
 
-// Where a stack stands when its leaf has come, for the definitions: the places and the count as popped and opened so far, and the leaf, if no test failed.
+// One node's answer while a stack is opened: the child that waits, the child that is opened next and what it is; the leaf; or damage.
+pub enum Opens {
+    On(NodeIndex, NodeIndex, Visited),
+    Came(Node),
+    Spoiled,
+}
+
+// Where a stack stands when its leaf has come, for the definitions: the leaf or damage, the places and the count as popped and opened so far, and
+// the leaf's index.
 pub struct Reached {
-    pub sound: bool,
+    pub came: Visited,
     pub places: [NodeIndex; 129],
     pub count: u32,
     pub leaf: NodeIndex,

@@ -1,31 +1,28 @@
-// Popping and opening nodes until a leaf comes, and what the leaf comes to. A stack is copied once and written in place; it goes back as it came where a test fails.
+// Popping and opening nodes until a leaf comes, and what the leaf comes to. A stack is copied once and written in place; it goes back as it came
+// where a test fails. No node is read twice.
 use crate::Given;
 use crate::Moved;
+use crate::Opens;
 use crate::Stack;
-use inspection::tests::form_ok;
-use inspection::tests::is_used;
-use inspection::tests::kids_ok;
-use inspection::tests::live_value;
+use inspection::Live;
+use inspection::Visited;
+use inspection::visit::live_value;
+use inspection::visit::node_ok;
+use inspection::visit::visit;
+use inspection::visit::visit_first;
 use records::Entry;
 use records::Header;
 use records::Node;
 use records::NodeIndex;
 use records::Refusal;
 use records::ValueIndex;
-use records::read::key_of;
-use records::read::node_at;
-use records::read::node_in;
-use records::read::value_record;
 ghost use mathlib.Core.Path.{_≡_};
-ghost use mathlib.Core.Bool.{Bool, true};
 ghost use Prim.Native.Nat.{_+_, _-_, _*_, _≤_, _<_};
 ghost use lib.ListN.{length};
 ghost use Rattle.words.specs.Words.{words};
-ghost use Rattle.records.specs.Records.{nodeOf};
 ghost use Rattle.inspection.specs.Room.{Room};
-ghost use Rattle.inspection.specs.Tests.{formOk};
-ghost use Rattle.listing.specs.Step.{nearOf, farOf, popTo, openedMoved};
-ghost use Rattle.listing.specs.Ends.{givenOf};
+ghost use Rattle.listing.specs.Step.{nearOf, farOf, openTurn, popTo, openedMoved};
+ghost use Rattle.listing.specs.Ends.{stuck, liveGiven, givenOf};
 
 // The child that is opened next.
 fn near(back: bool, x: Node) -> NodeIndex
@@ -47,61 +44,87 @@ fn far(back: bool, x: Node) -> NodeIndex
     x.right
 }
 
-// Whether the popped node passes by itself: it has no known parent.
-fn first_ok(img: &[u8], h: Header, i: NodeIndex) -> bool
-    requires { ⌜ Room h (length (words (now img))) ⌝ }
-    ensures { λ r. ⌜ r ≡ formOk h (i .0) (nodeOf (words (now (img .entry))) (i .0)) ⌝ }
+// One node of the opening: node `i`, which has passed, on a stack of so many places. Both children are tested.
+fn open_turn(img: &[u8], h: Header, back: bool, count: u32, i: NodeIndex, came: Visited) -> Opens
+    requires { ⌜ Room h (length (words (now img))) × (count ≤ 129) ⌝ }
+    ensures { λ r. ⌜ r ≡ openTurn back h (words (now (img .entry))) count i came ⌝ }
 {
-    if is_used(h, i) {
-        return form_ok(h, i, node_in(img, i));
+    match came {
+        Visited::Inner(x) => {
+            if count + 2 <= 129 {
+                if x.prefix < 128 {
+                    let low = x.prefix + 1;
+                    let wait = far(back, x);
+                    if node_ok(img, h, wait, i, low) {
+                        let next = near(back, x);
+                        return Opens::On(wait, next, visit(img, h, next, i, low));
+                    }
+                }
+            }
+            Opens::Spoiled
+        }
+        Visited::Leaf(x) => Opens::Came(x),
+        Visited::Damaged => Opens::Spoiled,
     }
-    false
 }
 
-// The value record that a node names.
-fn value_of(img: &[u8], i: NodeIndex) -> ValueIndex
-    ensures { λ r. ⌜ r ≡ nodeOf (words (now (img .entry))) (i .0) .value ⌝ }
+// Damage: the stack does not move.
+fn stopped(last: ValueIndex) -> Given
+    ensures { λ r. ⌜ r ≡ stuck last ⌝ }
 {
-    ValueIndex(words::word(img, node_at(i) + 3))
+    Given {
+        moves: false,
+        ended: false,
+        last,
+        entry: Entry::Refused(Refusal::Damaged),
+    }
+}
+
+// A leaf's entry, by its value record.
+fn live_given(x: Node, last: ValueIndex, live: Live) -> Given
+    ensures { λ r. ⌜ r ≡ liveGiven x last live ⌝ }
+{
+    match live {
+        Live::Holds(v) => {
+            let key = x.key;
+            let own = x.value;
+            Given {
+                moves: true,
+                ended: false,
+                last: own,
+                entry: Entry::Is(key, v),
+            }
+        }
+        Live::Not => stopped(last),
+    }
 }
 
 // What the leaf comes to: the ends meet, or its value record is tested and its entry given.
 fn given(
     img: &[u8],
     n: u32,
-    sound: bool,
+    came: Visited,
     leaf: NodeIndex,
     last: ValueIndex,
     other: ValueIndex,
 ) -> Given
-    ensures { λ r. ⌜ r ≡ givenOf n (words (now (img .entry))) sound leaf last other ⌝ }
+    ensures { λ r. ⌜ r ≡ givenOf n (words (now (img .entry))) came leaf last other ⌝ }
 {
-    if sound {
-        let j = value_of(img, leaf);
-        if j.0 == other.0 {
-            return Given {
-                moves: true,
-                ended: true,
-                last,
-                entry: Entry::Refused(Refusal::Absent),
-            };
+    match came {
+        Visited::Leaf(x) => {
+            let j = x.value;
+            if j.0 == other.0 {
+                return Given {
+                    moves: true,
+                    ended: true,
+                    last,
+                    entry: Entry::Refused(Refusal::Absent),
+                };
+            }
+            live_given(x, last, live_value(img, n, leaf, j))
         }
-        let record = value_record(img, n, j);
-        if live_value(record) {
-            let v = record.value;
-            return Given {
-                moves: true,
-                ended: false,
-                last: j,
-                entry: Entry::Is(key_of(img, leaf), v),
-            };
-        }
-    }
-    Given {
-        moves: false,
-        ended: false,
-        last,
-        entry: Entry::Refused(Refusal::Damaged),
+        Visited::Inner(_) => stopped(last),
+        Visited::Damaged => stopped(last),
     }
 }
 
@@ -115,26 +138,23 @@ pub fn popped(img: &[u8], n: u32, h: Header, back: bool, s: Stack, other: ValueI
     let mut count = s.count - 1;
     let top = count as usize;
     let mut i = places[top];
-    let mut sound = first_ok(img, h, i);
-    while sound {
-        let x = node_in(img, i);
-        if x.value.0 != 0 {
-            break;
-        }
-        sound = false;
-        if count <= 127 {
-            if kids_ok(img, h, i, x) {
-                sound = true;
+    let mut came = visit_first(img, h, i);
+    let reached = loop {
+        match open_turn(img, h, back, count, i, came) {
+            Opens::On(wait, next, what) => {
                 let at = count as usize;
-                places[at] = far(back, x);
-                places[at + 1] = near(back, x);
+                places[at] = wait;
+                places[at + 1] = next;
                 count += 1;
-                i = near(back, x);
+                i = next;
+                came = what;
             }
+            Opens::Came(x) => break Visited::Leaf(x),
+            Opens::Spoiled => break Visited::Damaged,
         }
-    }
+    };
     let given_last = s.last;
-    let g = given(img, n, sound, i, given_last, other);
+    let g = given(img, n, reached, i, given_last, other);
     if !g.moves {
         let before = s.places;
         places = before;

@@ -6,7 +6,9 @@ use crate::Stack;
 use crate::Stepped;
 use crate::open::popped;
 use inspection::Opened;
+use inspection::open::is_image;
 use inspection::open::open_image;
+use inspection::open::open_shaped;
 use records::Done;
 use records::Entry;
 use records::NodeIndex;
@@ -21,7 +23,7 @@ ghost use Rattle.records.specs.Layout.{imageOf};
 ghost use Rattle.inspection.specs.Room.{Room};
 ghost use Rattle.listing.specs.Position.{emptyStack, rootStack, bothEnds, openedMade, madeOf};
 ghost use Rattle.listing.specs.Step.{stepOf};
-ghost use Rattle.listing.specs.Ends.{turnedAway, endStep};
+ghost use Rattle.listing.specs.Ends.{endStep};
 
 // ---- making a position
 
@@ -83,24 +85,7 @@ pub fn list(img: &[u8], m: u32, n: u32) -> Made
 
 // ---- a step
 
-// What is wrong with a position comes between the shape and the header.
-fn turned(r: Refusal, sound: bool) -> Refusal
-    ensures { λ q. ⌜ q ≡ turnedAway r sound ⌝ }
-{
-    if sound {
-        return r;
-    }
-    match r {
-        Refusal::Shape => Refusal::Shape,
-        Refusal::Damaged => Refusal::Cursor,
-        Refusal::Full => Refusal::Cursor,
-        Refusal::Absent => Refusal::Cursor,
-        Refusal::NotBlank => Refusal::Cursor,
-        Refusal::Cursor => Refusal::Cursor,
-    }
-}
-
-// A step at one end, whose stack is `s`; the other end has so many places, and gave `other` last.
+// A step at one end, whose stack is `s`; the other end has so many places, and gave `other` last. The shape, then the position, then the header.
 fn step(
     img: &[u8],
     m: u32,
@@ -113,19 +98,21 @@ fn step(
 ) -> Moved
     ensures { λ r. ⌜ r ≡ endStep back m n (imageOf (now (img .entry))) ended s held other ⌝ }
 {
-    let sound = (s.count <= 129) & (held <= 129);
-    let mut r = Refusal::Cursor;
-    match open_image(img, m, n) {
-        Opened::Good(h) => {
-            if sound {
-                if (!ended) & (s.count != 0) {
-                    return popped(img, n, h, back, s, other);
+    let mut r = Refusal::Shape;
+    if is_image(img, m, n) {
+        r = Refusal::Cursor;
+        if (s.count <= 129) & (held <= 129) {
+            match open_shaped(img, m, n) {
+                Opened::Good(h) => {
+                    if (!ended) & (s.count != 0) {
+                        return popped(img, n, h, back, s, other);
+                    }
+                    r = Refusal::Absent;
                 }
-                r = Refusal::Absent;
+                Opened::Shut(q) => {
+                    r = q;
+                }
             }
-        }
-        Opened::Shut(q) => {
-            r = turned(q, sound);
         }
     }
     Moved {

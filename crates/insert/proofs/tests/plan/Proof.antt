@@ -1,4 +1,4 @@
--- `tests::plan` meets its contract. Assumes nothing.
+-- `insert::tests::plan` meets its contract. Assumes nothing.
 use mathlib.Core.Path.{sym, _∙_}
 use Rattle.inspection.specs.Room.{opened-words}
 use Rattle.insert.specs.Ready.{ready}

@@ -1,4 +1,4 @@
--- `tests::taken_node` meets its contract. Assumes nothing.
+-- `insert::tests::taken_node` meets its contract. Assumes nothing.
 use borrow.Author.Tests.{lt-ltb, le-ltb}
 use Rattle.insert.specs.Plan.{takenNode}
 use borrow.Author.Needs.{needs}
@@ -15,13 +15,13 @@ returns : tie.Need-returns
 unfolding takenNode
 returns c = simp (lt-ltb _ _ (c .before .before .if1 .taken), c .free-node .ensures, c .before .node-in .ensures)
 
-never-used-requires : tie.Need-never-used-requires
-never-used-requires c κs = search needs
+fresh-node-requires : tie.Need-fresh-node-requires
+fresh-node-requires c κs = search needs
 
 returns-2 : tie.Need-returns-2
 unfolding takenNode
-returns-2 c = simp (le-ltb _ _ (c .before .before .if1 .left), c .never-used .ensures)
+returns-2 c = simp (le-ltb _ _ (c .before .if1 .left), c .fresh-node .ensures)
 
 pub taken-node-spec : {M : Type 1} → statement M
 taken-node-spec =
-    tie.close (tie.spec node-in-requires free-node-requires returns never-used-requires returns-2)
+    tie.close (tie.spec node-in-requires free-node-requires returns fresh-node-requires returns-2)

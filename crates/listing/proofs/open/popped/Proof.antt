@@ -1,27 +1,22 @@
--- `open::popped` meets its contract. The loop's invariant is `Opening`: while it is sound, what is left to open is the whole. Assumes nothing.
-use Rattle.listing.specs.Laws.{finished, kept-back, kept-on}
-use mathlib.Core.Logic.{_≢_}
-use mathlib.Core.Bool.{true}
+-- `listing::open::popped` meets its contract. Assumes nothing.
+use mathlib.Core.Path.{_≡_, refl, sym, _∙_}
+use Rattle.listing.specs.Step.{reachedAt, popTo}
+-- `listing::open::popped` meets its contract. Assumes nothing.
 use mathlib.Core.Logic.{_⊎_, ⊎-elim}
-use mathlib.Core.Bool.{true≢false}
-use Rattle.inspection.specs.Room.{used-within}
-use Rattle.listing.specs.Laws.{going, open-used, prefix-most, too-many, bad-kids, opens-on, nearer, landed}
-use mathlib.Core.Path.{_≡_, refl, sym, ap, _∙_}
-use mathlib.Core.Bool.{cond}
-use Prim.Native.Nat.{_+_, _-_, _≤_}
+-- `listing::open::popped` meets its contract. Assumes nothing.
 use native.Mathlib.Omega.{arith}
-use Rattle.words.specs.Words.{words}
-use Rattle.records.specs.Records.{nodeOf}
-use Rattle.listing.specs.Laws.{Opening, opening}
 use borrow.Author.Needs.{needs}
+use Prim.Native.Nat.{_-_}
+use Rattle.words.specs.Words.{words}
+use Rattle.listing.specs.Laws.{reachOf, Opening, opening, opens-room, opens-nearer, opens-on, opens-last, landed, finished, kept-back, kept-on}
 use Rattle.listing.proofs.open.popped.Statement.{statement}
 use Rattle.listing.proofs.open.popped.Tie as tie
 
 abbrev Inv-loop : tie.InvT-loop
-Inv-loop img n h back s other places₀ count₀ top i₀ sound₀ places count i sound = (count ≤ 129) × Opening back h (words img) s sound places count i
+Inv-loop img n h back s other places₀ count₀ top i₀ came₀ places count i came = Opening back h (words img) s places count i came
 
 abbrev μ-loop : tie.MeasureT-loop
-μ-loop img n h back s other places₀ count₀ top i₀ sound₀ places count i sound = cond sound (130 - nodeOf (words img) (i .0) .prefix) 0
+μ-loop img n h back s other places₀ count₀ top i₀ came₀ places count i came = 129 - reachOf came
 
 sub-count : tie.Need-sub-count Inv-loop μ-loop
 sub-count c = search needs
@@ -35,32 +30,26 @@ mul-i c = search needs
 array-copy-out-i : tie.Need-array-copy-out-i Inv-loop μ-loop
 array-copy-out-i c = search needs
 
-first-ok-requires : tie.Need-first-ok-requires Inv-loop μ-loop
-first-ok-requires c κs = search needs
+visit-first-requires : tie.Need-visit-first-requires Inv-loop μ-loop
+visit-first-requires c κs = search needs
 
 loop-holds : tie.Need-loop-holds Inv-loop μ-loop
-loop-holds c = (omega (arith, c .before .before .before .before .before .pre .1), opening _ _ _ _ _ (c .first-ok .ensures))
+loop-holds c = simp (c .visit-first .ensures) (opening (c .before .before .before .before .before .args .back) (c .before .before .before .before .before .args .h) (words (c .before .before .before .before .before .args .img .now)) (c .before .before .before .before .before .args .s) (c .before .before .before .before .before .pre .1 .1))
 
-node-in-requires : tie.Need-node-in-requires Inv-loop μ-loop
-node-in-requires c κs = used-within (c .before .before .before .before .before .before .before .args .h) _ _ (open-used _ _ _ _ _ _ _ (going _ _ _ _ _ _ _ (c .loop-test .taken) (c .before .loop .inv .1)) _ refl) (c .before .before .before .before .before .before .before .pre .0)
+open-turn-requires : tie.Need-open-turn-requires Inv-loop μ-loop
+open-turn-requires c κs = (c .before .before .before .before .before .before .pre .0, c .loop .inv .room)
 
-kids-ok-requires : tie.Need-kids-ok-requires Inv-loop μ-loop
-kids-ok-requires c κs = search needs
+enum-known-wait : tie.Need-enum-known-wait Inv-loop μ-loop
+enum-known-wait c = search needs
 
 cast-at : tie.Need-cast-at Inv-loop μ-loop
 cast-at c = search needs
-
-far-requires : tie.Need-far-requires Inv-loop μ-loop
-far-requires c κs = search needs
 
 mul-places : tie.Need-mul-places Inv-loop μ-loop
 mul-places c = search needs
 
 array-set-from-places : tie.Need-array-set-from-places Inv-loop μ-loop
-array-set-from-places c = search needs
-
-near-requires : tie.Need-near-requires Inv-loop μ-loop
-near-requires c κs = search needs
+array-set-from-places c = omega (arith, opens-room (c .before .before .before .before .before .before .before .before .before .before .args .back) (c .before .before .before .before .before .before .before .before .before .before .args .h) (words (c .before .before .before .before .before .before .before .before .before .before .args .img .now)) (c .before .before .before .before .before .before .before .before .before .before .args .s) (c .before .before .before .before .loop .places) (c .before .before .before .before .loop .count) (c .before .before .before .before .loop .i) (c .before .before .before .before .loop .came) (c .before .before .before .before .loop .inv) _ _ _ (sym (c .before .before .before .open-turn .ensures) ∙ c .before .wait .given .1))
 
 add-places : tie.Need-add-places Inv-loop μ-loop
 add-places c = search needs
@@ -69,50 +58,28 @@ mul-places-2 : tie.Need-mul-places-2 Inv-loop μ-loop
 mul-places-2 c = search needs
 
 array-set-from-places-2 : tie.Need-array-set-from-places-2 Inv-loop μ-loop
-array-set-from-places-2 c = search needs
+array-set-from-places-2 c = omega (arith, opens-room (c .before .before .before .before .before .before .before .before .before .before .args .back) (c .before .before .before .before .before .before .before .before .before .before .args .h) (words (c .before .before .before .before .before .before .before .before .before .before .args .img .now)) (c .before .before .before .before .before .before .before .before .before .before .args .s) (c .before .before .before .before .loop .places) (c .before .before .before .before .loop .count) (c .before .before .before .before .loop .i) (c .before .before .before .before .loop .came) (c .before .before .before .before .loop .inv) _ _ _ (sym (c .before .before .before .open-turn .ensures) ∙ c .before .wait .given .1))
 
 add-count : tie.Need-add-count Inv-loop μ-loop
 add-count c = search needs
 
-near-requires-2 : tie.Need-near-requires-2 Inv-loop μ-loop
-near-requires-2 c κs = search needs
-
 loop-less : tie.Need-loop-less Inv-loop μ-loop
-loop-less c = let o = going _ _ _ _ _ _ _ (c .before .before .before .before .before .before .before .before .before .loop-test .taken) (c .before .before .before .before .before .before .before .before .before .before .loop .inv .1) in
-    let e = ap (λ x. x .prefix) (c .before .before .before .before .before .before .before .before .node-in .ensures) in
-    simp (c .before .before .before .before .before .before .before .before .before .loop-test .taken, c .near2 .ensures) (omega (arith, e, nearer _ _ _ _ _ _ _ o _ (c .before .before .before .before .before .before .before .before .node-in .ensures) (c .before .before .before .before .before .before .if1 .left) (sym (c .before .before .before .before .kids-ok .ensures) ∙ c .before .before .before .if3 .taken), prefix-most _ _ _ _ _ _ _ o _ (c .before .before .before .before .before .before .before .before .node-in .ensures)))
+loop-less c = omega (arith, opens-nearer (c .before .before .before .before .before .before .before .before .before .before .args .back) (c .before .before .before .before .before .before .before .before .before .before .args .h) (words (c .before .before .before .before .before .before .before .before .before .before .args .img .now)) (c .before .before .before .before .before .before .before .before .before .before .args .s) (c .before .before .before .before .loop .places) (c .before .before .before .before .loop .count) (c .before .before .before .before .loop .i) (c .before .before .before .before .loop .came) (c .before .before .before .before .loop .inv) _ _ _ (sym (c .before .before .before .open-turn .ensures) ∙ c .before .wait .given .1) .0, opens-nearer (c .before .before .before .before .before .before .before .before .before .before .args .back) (c .before .before .before .before .before .before .before .before .before .before .args .h) (words (c .before .before .before .before .before .before .before .before .before .before .args .img .now)) (c .before .before .before .before .before .before .before .before .before .before .args .s) (c .before .before .before .before .loop .places) (c .before .before .before .before .loop .count) (c .before .before .before .before .loop .i) (c .before .before .before .before .loop .came) (c .before .before .before .before .loop .inv) _ _ _ (sym (c .before .before .before .open-turn .ensures) ∙ c .before .wait .given .1) .1)
 
 loop-again : tie.Need-loop-again Inv-loop μ-loop
-loop-again c = let o = going _ _ _ _ _ _ _ (c .before .before .before .before .before .before .before .before .before .loop-test .taken) (c .before .before .before .before .before .before .before .before .before .before .loop .inv .1) in
-    simp (c .near2 .ensures, c .before .near .ensures, c .before .before .far .ensures) (omega arith, opens-on _ _ _ _ _ _ _ o _ (c .before .before .before .before .before .before .before .before .node-in .ensures) (c .before .before .before .before .before .before .if1 .left) (c .before .before .before .before .before .if2 .taken) (sym (c .before .before .before .before .kids-ok .ensures) ∙ c .before .before .before .if3 .taken))
+loop-again c = opens-on (c .before .before .before .before .before .before .before .before .before .before .args .back) (c .before .before .before .before .before .before .before .before .before .before .args .h) (words (c .before .before .before .before .before .before .before .before .before .before .args .img .now)) (c .before .before .before .before .before .before .before .before .before .before .args .s) (c .before .before .before .before .loop .places) (c .before .before .before .before .loop .count) (c .before .before .before .before .loop .i) (c .before .before .before .before .loop .came) (c .before .before .before .before .loop .inv) _ _ _ (sym (c .before .before .before .open-turn .ensures) ∙ c .before .wait .given .1)
 
-loop-less-2 : tie.Need-loop-less-2 Inv-loop μ-loop
-loop-less-2 c = let o = going _ _ _ _ _ _ _ (c .before .before .before .before .before .before .loop-test .taken) (c .before .before .before .before .before .before .before .loop .inv .1) in
-    simp (c .before .before .before .before .before .before .loop-test .taken) (omega (arith, ap (λ x. x .prefix) (c .before .before .before .before .before .node-in .ensures), prefix-most _ _ _ _ _ _ _ o _ (c .before .before .before .before .before .node-in .ensures)))
+enum-known-x : tie.Need-enum-known-x Inv-loop μ-loop
+enum-known-x c = search needs
 
-loop-again-2 : tie.Need-loop-again-2 Inv-loop μ-loop
-loop-again-2 c = let o = going _ _ _ _ _ _ _ (c .before .before .before .before .before .before .loop-test .taken) (c .before .before .before .before .before .before .before .loop .inv .1) in
-    (c .before .before .before .before .before .before .before .loop .inv .0, bad-kids _ _ _ _ _ _ _ o _ (c .before .before .before .before .before .node-in .ensures) (c .before .before .before .if1 .left) (c .before .before .if2 .taken) (sym (c .before .kids-ok .ensures) ∙ c .if3 .left))
-
-loop-less-3 : tie.Need-loop-less-3 Inv-loop μ-loop
-loop-less-3 c = let o = going _ _ _ _ _ _ _ (c .before .before .before .before .loop-test .taken) (c .before .before .before .before .before .loop .inv .1) in
-    simp (c .before .before .before .before .loop-test .taken) (omega (arith, ap (λ x. x .prefix) (c .before .before .before .node-in .ensures), prefix-most _ _ _ _ _ _ _ o _ (c .before .before .before .node-in .ensures)))
-
-loop-again-3 : tie.Need-loop-again-3 Inv-loop μ-loop
-loop-again-3 c = let o = going _ _ _ _ _ _ _ (c .before .before .before .before .loop-test .taken) (c .before .before .before .before .before .loop .inv .1) in
-    (c .before .before .before .before .before .loop .inv .0, too-many _ _ _ _ _ _ _ o _ (c .before .before .before .node-in .ensures) (c .before .if1 .left) (c .if2 .left))
+enum-told : tie.Need-enum-told Inv-loop μ-loop
+enum-told c = search needs
 
 given-requires : tie.Need-given-requires Inv-loop μ-loop
 given-requires c κs = search needs
 
 returns : tie.Need-returns Inv-loop μ-loop
-returns c = let v : (c .before .before .before .before .before .before .loop .sound ≡ true → nodeOf (words (c .before .before .before .before .before .before .before .before .before .before .before .before .args .img .now)) (c .before .before .before .before .before .before .loop .i .0) .value .0 ≢ 0) = ⊎-elim (λ l e. absurd (true≢false (sym e ∙ l .left))) (λ w e q. w .3 .taken (ap (λ x. x .value .0) (w .1 .ensures) ∙ q)) (c .before .before .before .before .before .loop-test .came) in
-    let d = landed _ _ _ _ _ _ _ _ _ _ (c .before .before .before .before .before .before .loop .inv .1) v in
-    let b = c .before .before .before .given .result .moves in
-    ⊎-elim
-    (λ w. finished (c .before .before .before .before .before .before .before .before .before .before .before .before .args .s) (record { sound = c .before .before .before .before .before .before .loop .sound; places = c .before .before .before .before .before .before .loop .places; count = c .before .before .before .before .before .before .loop .count; leaf = c .before .before .before .before .before .before .loop .i }) (c .before .before .before .given .result) _ _ (c .before .if4 .places) (c .before .if4 .count) d (c .before .before .before .given .ensures) (w .2 ∙ kept-back b (c .before .before .before .before .before .before .loop .places) _ (w .0 .taken)) (w .3 ∙ kept-back b (c .before .before .before .before .before .before .loop .count) _ (w .0 .taken)))
-    (λ w. finished (c .before .before .before .before .before .before .before .before .before .before .before .before .args .s) (record { sound = c .before .before .before .before .before .before .loop .sound; places = c .before .before .before .before .before .before .loop .places; count = c .before .before .before .before .before .before .loop .count; leaf = c .before .before .before .before .before .before .loop .i }) (c .before .before .before .given .result) _ _ (c .before .if4 .places) (c .before .if4 .count) d (c .before .before .before .given .ensures) (w .1 ∙ kept-on b _ (c .before .before .before .before .before .before .before .before .before .before .before .before .args .s .places) (w .0 .left)) (w .2 ∙ kept-on b _ (c .before .before .before .before .before .before .before .before .before .before .before .before .args .s .count) (w .0 .left)))
-    (c .before .if4 .came)
+returns c = let whole : (reachedAt (c .before .before .before .before .before .match .reached) (c .before .before .before .before .before .before .before .loop .places) (c .before .before .before .before .before .before .before .loop .count) (c .before .before .before .before .before .before .before .loop .i)) ≡ popTo (c .before .before .before .before .before .before .before .before .before .before .before .before .before .args .back) (c .before .before .before .before .before .before .before .before .before .before .before .before .before .args .h) (words (c .before .before .before .before .before .before .before .before .before .before .before .before .before .args .img .now)) (c .before .before .before .before .before .before .before .before .before .before .before .before .before .args .s) = ⊎-elim (λ w. rw (w .3) (opens-last (c .before .before .before .before .before .before .before .before .before .before .before .before .before .args .back) (c .before .before .before .before .before .before .before .before .before .before .before .before .before .args .h) (words (c .before .before .before .before .before .before .before .before .before .before .before .before .before .args .img .now)) (c .before .before .before .before .before .before .before .before .before .before .before .before .before .args .s) (c .before .before .before .before .before .before .before .loop .places) (c .before .before .before .before .before .before .before .loop .count) (c .before .before .before .before .before .before .before .loop .i) (c .before .before .before .before .before .before .before .loop .came) (c .before .before .before .before .before .before .before .loop .inv) _ (sym (c .before .before .before .before .before .before .open-turn .ensures) ∙ w .1 .given .1) _ (λ go. refl))) (λ w. rw (w .2) (opens-last (c .before .before .before .before .before .before .before .before .before .before .before .before .before .args .back) (c .before .before .before .before .before .before .before .before .before .before .before .before .before .args .h) (words (c .before .before .before .before .before .before .before .before .before .before .before .before .before .args .img .now)) (c .before .before .before .before .before .before .before .before .before .before .before .before .before .args .s) (c .before .before .before .before .before .before .before .loop .places) (c .before .before .before .before .before .before .before .loop .count) (c .before .before .before .before .before .before .before .loop .i) (c .before .before .before .before .before .before .before .loop .came) (c .before .before .before .before .before .before .before .loop .inv) _ (sym (c .before .before .before .before .before .before .open-turn .ensures) ∙ w .1 .given .1) _ (λ go. refl))) (c .before .before .before .before .before .match .came) in let d = landed (c .before .before .before .before .before .before .before .before .before .before .before .before .before .args .back) (c .before .before .before .before .before .before .before .before .before .before .before .before .before .args .h) (words (c .before .before .before .before .before .before .before .before .before .before .before .before .before .args .img .now)) (c .before .before .before .before .before .before .before .before .before .before .before .before .before .args .s) (c .before .before .before .before .before .before .before .loop .places) (c .before .before .before .before .before .before .before .loop .count) (c .before .before .before .before .before .before .before .loop .i) (c .before .before .before .before .before .match .reached) (c .before .before .before .before .before .before .before .before .before .before .before .before .before .args .n) (c .before .before .before .before .before .before .before .before .before .before .before .before .before .args .other) whole in let b = c .before .before .before .given .result .moves in ⊎-elim (λ w. finished (c .before .before .before .before .before .before .before .before .before .before .before .before .before .args .s) (reachedAt (c .before .before .before .before .before .match .reached) (c .before .before .before .before .before .before .before .loop .places) (c .before .before .before .before .before .before .before .loop .count) (c .before .before .before .before .before .before .before .loop .i)) (c .before .before .before .given .result) _ _ (c .before .if1 .places) (c .before .if1 .count) d (c .before .before .before .given .ensures) (w .2 ∙ kept-back b (c .before .before .before .before .before .before .before .loop .places) _ (w .0 .taken)) (w .3 ∙ kept-back b (c .before .before .before .before .before .before .before .loop .count) _ (w .0 .taken))) (λ w. finished (c .before .before .before .before .before .before .before .before .before .before .before .before .before .args .s) (reachedAt (c .before .before .before .before .before .match .reached) (c .before .before .before .before .before .before .before .loop .places) (c .before .before .before .before .before .before .before .loop .count) (c .before .before .before .before .before .before .before .loop .i)) (c .before .before .before .given .result) _ _ (c .before .if1 .places) (c .before .if1 .count) d (c .before .before .before .given .ensures) (w .1 ∙ kept-on b _ (c .before .before .before .before .before .before .before .before .before .before .before .before .before .args .s .places) (w .0 .left)) (w .2 ∙ kept-on b _ (c .before .before .before .before .before .before .before .before .before .before .before .before .before .args .s .count) (w .0 .left))) (c .before .if1 .came)
 
 pub popped-spec : {M : Type 1} → statement M
 popped-spec =
@@ -124,25 +91,20 @@ popped-spec =
     cast-top
     mul-i
     array-copy-out-i
-    first-ok-requires
+    visit-first-requires
     loop-holds
-    node-in-requires
-    kids-ok-requires
+    open-turn-requires
+    enum-known-wait
     cast-at
-    far-requires
     mul-places
     array-set-from-places
-    near-requires
     add-places
     mul-places-2
     array-set-from-places-2
     add-count
-    near-requires-2
     loop-less
     loop-again
-    loop-less-2
-    loop-again-2
-    loop-less-3
-    loop-again-3
+    enum-known-x
+    enum-told
     given-requires
     returns)
