@@ -2,3 +2,7 @@
 pub mod Stores
 pub mod Spot
 pub mod Moved
+pub mod After
+pub mod Cut
+pub mod Lone
+pub mod Call

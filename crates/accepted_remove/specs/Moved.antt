@@ -2,11 +2,11 @@
 -- place of the node above, and every node outside the spot is as it was.
 use mathlib.Core.Path.{_≡_, refl, sym, ap, subst, _∙_}
 use mathlib.Core.List.{List}
-use mathlib.Core.Logic.{_≢_, _⊎_, inl, inr, ⊎-elim}
+use mathlib.Core.Logic.{_≢_, _⊎_, inl, inr}
 use Prim.Native.Nat.{ℕ, _+_, _≤_, _<_}
 use native.Mathlib.Omega.{arith}
 use Rattle.keys.specs.declared.Key.{Key}
-use Rattle.node_allocator.specs.declared.Arena.the-variants.{Nodes, Values}
+use Rattle.node_allocator.specs.declared.Arena.the-variants.{Nodes}
 use Rattle.node_allocator.specs.declared.Register.the-variants.{Left}
 use Rattle.node_allocator.specs.Layout.{capacityOf}
 use Rattle.node_allocator.specs.Steps.{removeCounts}
@@ -20,13 +20,13 @@ use Rattle.trees.specs.Tree.{Tree, leaf, inner, fork, top, prefixOf, relabel}
 use Rattle.trees.specs.Nodes.{In, Child, in-top, is-top, in-child}
 use Rattle.record_views.specs.Nodes.{changed, withRegister}
 use Rattle.record_views.specs.Values.{withLink}
-use Rattle.record_views.specs.Header.{nodes-are, values-are}
-use Rattle.record_views.specs.Small.{FitsNode, FitsCounts, node-fits, counts-fit}
+use Rattle.record_views.specs.Header.{nodes-fit, values-fit}
+use Rattle.record_views.specs.Small.{FitsNode, node-fits}
 use Rattle.record_views.specs.Stored.{Stored, stays}
 use Rattle.accepted.specs.Rules.{Holds}
 use Rattle.accepted.specs.Accepted.{Accepted}
 use Rattle.accepted.specs.Held.{top-used, once, in-range}
-use Rattle.accepted.specs.Frame.{holds-relabelled}
+use Rattle.accepted.specs.Frame.{holds-relabelled, accepted-bounds}
 use Rattle.accepted.specs.Forks.{in-node, in-near, in-far, fork-once}
 use Rattle.accepted_remove.specs.Spot.{Spot, leafThere, forkThere, leaf-here}
 use Rattle.accepted_remove.specs.Stores.{cuts, lessTwo, cut-stored, cuts-other, cuts-leaf, cuts-parent, cuts-place, cuts-kid}
@@ -66,27 +66,6 @@ module _ (h : Header) (ws : List ℕ) where
   prefix-rises parent low (leaf i key v) k = k .rises
   prefix-rises parent low (inner i key p a b) k = k .rises
 
--- ---- the row of stores begins
-
-module _ {m n : ℕ} {ws : List ℕ} (a : Accepted m n ws) where
-  pub begun : Stored m n (headerOf n ws .nodes .bump) (headerOf n ws .values .bump) ws ws (λ y x. x) (λ y r. r) (λ h. h)
-  begun =
-      stays (record {
-        few = a .shape .most-nodes;
-        some = a .header .nodes .bump-some;
-        most = a .header .nodes .bump-most;
-        few-values = a .shape .most;
-        some-values = a .header .values .bump-some;
-        most-values = a .header .values .bump-most;
-      })
-      ws (omega (arith, a .shape .words))
-
-  pub nodes-fit : FitsCounts (headerOf n ws .nodes)
-  nodes-fit = rw (nodes-are n ws) (counts-fit (Nodes n) ws (a .words))
-
-  pub values-fit : FitsCounts (headerOf n ws .values)
-  values-fit = rw (values-are m n ws) (counts-fit (Values n m) ws (a .words))
-
 -- ---- the image after a cut
 
 module _ {m n : ℕ} {ws : List ℕ} (a : Accepted m n ws) {key : Key} {i j : ℕ} {t : Tree} (s : Spot (headerOf n ws) ws key i j t) where
@@ -115,7 +94,7 @@ module _ {m n : ℕ} {ws : List ℕ} (a : Accepted m n ws) {key : Key} {i j : �
       (changed j (withLink (h .values .head))) (lessTwo m n h i j sibling)
   cut-step =
       let kids = kids-used h ws (s .p) (s .prefix + 1) (s .far) (s .held .on-far) in
-      cut-stored (begun a) h (nodes-fit a) (values-fit a) i (leafThere s) (forkThere s) sibling z
+      cut-stored (stays (accepted-bounds a) ws (omega (arith, a .shape .words))) h (nodes-fit n ws (a .words)) (values-fit n ws (a .words)) i (leafThere s) (forkThere s) sibling z
       (leaf-range .0) (leaf-range .1) (leaf-range .2) (leaf-range .3) (subst FitsNode (leaf-here s) (node-fits ws i (a .words))) (s .held .index-used)
       (subst FitsNode (s .held .here) (node-fits ws (s .p) (a .words))) (sibling-range .0) (sibling-range .1) (node-fits ws sibling (a .words)) (kids .0) (kids .1)
 
@@ -151,7 +130,7 @@ module _ {m n : ℕ} {ws : List ℕ} (a : Accepted m n ws) {key : Key} {i j : �
       after i (leaf-range .0) (leaf-range .1)
       ∙ cuts-leaf i (leafThere s) (h .nodes .head) (s .p) _ sibling z _ (nodeOf ws i) (λ e. twice .0 (sym e)) (λ e. not-leaf sibling (in-top (s .far)) (sym e)) (k .0) (k .1)
 
-  pub leaf-named : Inside (Nodes n) i
+  leaf-named : Inside (Nodes n) i
   unfolding capacityOf
   leaf-named = record { low = leaf-range .0; high = omega (arith, leaf-range .1, a .header .nodes .bump-most) }
 
@@ -179,7 +158,7 @@ module _ {m n : ℕ} {ws : List ℕ} (a : Accepted m n ws) {key : Key} {i j : �
   node-outside y l u f =
       node-other y l u (λ e. out (in-near (s .p) (s .label) (s .prefix) (s .side) (leaf i (s .own) j) (s .far) y e))
       (λ e. out (subst (λ x. In x spot) (sym e) (in-node (s .p) (s .label) (s .prefix) (s .side) (leaf i (s .own) j) (s .far))))
-      (λ e. out (beside (is-top (s .far) e))) (λ q. out (beside (in-child y (s .far) q)))
+      (λ e. out (in-sibling (is-top (s .far) e))) (λ q. out (in-sibling (in-child y (s .far) q)))
     where
       spot : Tree
       spot = fork (s .p) (s .label) (s .prefix) (s .side) (leaf i (s .own) j) (s .far)
@@ -187,8 +166,8 @@ module _ {m n : ℕ} {ws : List ℕ} (a : Accepted m n ws) {key : Key} {i j : �
       out : In y spot → ⊥
       out q = f (subst (λ (u : Tree). In y u) (sym (s .is)) q)
 
-      beside : In y (s .far) → In y spot
-      beside q = in-far (s .p) (s .label) (s .prefix) (s .side) (leaf i (s .own) j) (s .far) y q
+      in-sibling : In y (s .far) → In y spot
+      in-sibling q = in-far (s .p) (s .label) (s .prefix) (s .side) (leaf i (s .own) j) (s .far) y q
 
   -- the sibling stands in the parent's place
   pub closed : (g : Header) → h .nodes .bump ≤ g .nodes .bump → h .values .bump ≤ g .values .bump → Holds g cutThere (s .parent) (s .low) (relabel (s .p) (s .far))

@@ -10,7 +10,6 @@ use borrow.Author.Tests.{ne-eqb, le-leb, lt-ltb}
 use Rattle.keys.specs.declared.Key.{Key}
 use Rattle.records.specs.declared.Header.{Header}
 use Rattle.records.specs.declared.Node.{Node}
-use Rattle.records.specs.declared.NodeIndex.{NodeIndex}
 use Rattle.records.specs.declared.Value.{Value}
 use Rattle.records.specs.Records.{nodeOf, leafNode}
 use Rattle.inspection.specs.declared.Live.the-variants as live
@@ -25,10 +24,8 @@ use Rattle.trees.specs.Remove.{hit, close, remove}
 use Rattle.trees.specs.Changes.{spot, in-spot, top-remove}
 use Rattle.accepted.specs.Rules.{Holds}
 use Rattle.accepted.specs.Held.{Clean, node-passes, kids-pass}
+use Rattle.accepted_lookup.specs.Descents.{at}
 use Rattle.accepted.specs.Forks.{sidedNode, Fork, fork-held, in-node, in-near, in-far, fork-once, fork-rebuilt}
-
-abbrev at : ℕ → NodeIndex
-at i = record { 0 = i }
 
 -- the subtree t is the parent of the leaf i of the key, which names value record j
 pub record Spot (h : Header) (ws : List ℕ) (key : Key) (i j : ℕ) (t : Tree) : Type 0 where

@@ -66,8 +66,8 @@ module _ {m n b c : ℕ} {us ws : List ℕ} {f : ℕ → Node → Node} {g : ℕ
 
 -- ---- a leaf is cut off
 
--- leaf i, whose record is x, is freed; the sibling s, whose record is z, moves into node p below `above`; its old node is freed, before which the chain
--- began at `next`
+-- leaf i, whose record is x, is freed; the sibling s, whose record is z, moves into node p below `above`; its old
+-- node is freed, before which the chain began at `next`
 abbrev pub cuts : ℕ → Node → ℕ → ℕ → ℕ → ℕ → Node → ℕ → ℕ → Node → Node
 cuts i x head p above s z next y w =
     frees s (bareNode (z .parent .0) z) next y
