@@ -138,7 +138,23 @@ module _ {m n : ℕ} {ws : List ℕ} (a : Accepted m n ws) where
   find-tree key (some t) k o =
       from-root (lookupTurn key) t k ∙ find-held (headerOf n ws) ws (accepted-clean a) key 129 0 0 t (short t o) (held-of t k)
 
-  -- and where a descent by sides does
+  -- what is made of a lookup's stop: at its leaf, or where the key is absent
+  pub at-stop : {B : Type 0} (key : Key) (F : Stop → B) (G : Option (ℕ × ℕ) → B) → F stop.Empty ≡ G none
+      → ((i : NodeIndex) (x : Node) (shared : ℕ) → F (stop.Parted i x shared) ≡ G none)
+      → ((e : ℕ × ℕ) → lookupIn key (a .tree) ≡ some e → F (stop.Leaf (at (e .0)) (nodeOf ws (e .0))) ≡ G (some e))
+      → F (findOf (headerOf n ws) ws key) ≡ G (lookupIn key (a .tree))
+  unfolding stopFrom
+  at-stop key F G empty parted leaf-at = rw (find-tree key (a .tree) (a .holds) (a .ordered)) (in-map (a .tree) leaf-at)
+    where
+      in-map : (t : Map) → ((e : ℕ × ℕ) → lookupIn key t ≡ some e → F (stop.Leaf (at (e .0)) (nodeOf ws (e .0))) ≡ G (some e)) → F (stopIn key t) ≡ G (lookupIn key t)
+      in-map none f = empty
+      in-map (some t) f = go (lookup key t) refl
+        where
+          go : (r : Option (ℕ × ℕ)) → lookup key t ≡ r → F (stopFrom ws key (target key t) r) ≡ G r
+          go none q = parted (at (top (target key t))) (nodeOf ws (top (target key t))) _
+          go (some e) q = f e q
+
+  -- where a descent by sides stops
   abbrev pub landedIn : (ℕ → Bool) → Map → Stop
   landedIn side none = stop.Empty
   landedIn side (some t) = stop.Leaf (at (landed side t .1 .0)) (nodeOf ws (landed side t .1 .0))
@@ -180,17 +196,10 @@ module _ {m n : ℕ} {ws : List ℕ} (a : Accepted m n ws) where
   live-held i j l = rw (live-passes n ws i j l)
 
   pub target-agrees : (key : Key) → targetOf m n ws key ≡ targetFrom (lookupIn key (a .tree))
-  unfolding targetOf openedTarget stopTarget liveTarget stopFrom
-  target-agrees key = rw (accepted-opens a, find-tree key (a .tree) (a .holds) (a .ordered)) (in-map (a .tree) (λ e q. (target-value key e q, alive key e q)))
-    where
-      in-map : (t : Map) → ((e : ℕ × ℕ) → lookupIn key t ≡ some e → (nodeOf ws (e .0) .value .0 ≡ e .1) × Live (valueRecordOf n ws (e .1)))
-          → stopTarget n ws (stopIn key t) ≡ targetFrom (lookupIn key t)
-      in-map none l = refl
-      in-map (some t) l = go (lookup key t) refl
-        where
-          go : (r : Option (ℕ × ℕ)) → lookup key t ≡ r → stopTarget n ws (stopFrom ws key (target key t) r) ≡ targetFrom r
-          go none q = refl
-          go (some e) q = rw (l e q .0, live-held (e .0) (e .1) (l e q .1))
+  unfolding targetOf openedTarget stopTarget liveTarget
+  target-agrees key =
+      rw (accepted-opens a)
+      (at-stop key (stopTarget n ws) targetFrom refl (λ i x s. refl) (λ e q. rw (target-value key e q, live-held (e .0) (e .1) (alive key e q))))
 
   pub get-agrees : (key : Key) → getOf m n ws key ≡ gotFrom (find key (listed a))
   unfolding getOf targetGot
@@ -206,30 +215,14 @@ module _ {m n : ℕ} {ws : List ℕ} (a : Accepted m n ws) where
   -- ---- contains and get_addr
 
   pub contains-agrees : (key : Key) → containsOf m n ws key ≡ doneFrom (held key (listed a))
-  unfolding containsOf openedDone stopDone stopFrom
+  unfolding containsOf openedDone stopDone
   contains-agrees key =
-      rw (accepted-opens a, find-tree key (a .tree) (a .holds) (a .ordered)) (in-map (a .tree)) ∙ ap (λ (b : Bool). doneFrom b) (sym (held-listed key))
-    where
-      in-map : (t : Map) → stopDone (stopIn key t) ≡ doneFrom (is-some (valueOf (lookupIn key t)))
-      in-map none = refl
-      in-map (some t) = go (lookup key t)
-        where
-          go : (r : Option (ℕ × ℕ)) → stopDone (stopFrom ws key (target key t) r) ≡ doneFrom (is-some (valueOf r))
-          go none = refl
-          go (some e) = refl
+      rw (accepted-opens a) (at-stop key stopDone (λ r. doneFrom (is-some (valueOf r))) refl (λ i x s. refl) (λ e q. refl)) ∙ ap doneFrom (sym (held-listed key))
 
   -- the node index of a held key is its leaf's
   pub addr-agrees : (key : Key) → addrOf m n ws key ≡ placeFrom (lookupIn key (a .tree))
-  unfolding addrOf openedPlace stopPlace stopFrom
-  addr-agrees key = rw (accepted-opens a, find-tree key (a .tree) (a .holds) (a .ordered)) (in-map (a .tree))
-    where
-      in-map : (t : Map) → stopPlace (stopIn key t) ≡ placeFrom (lookupIn key t)
-      in-map none = refl
-      in-map (some t) = go (lookup key t)
-        where
-          go : (r : Option (ℕ × ℕ)) → stopPlace (stopFrom ws key (target key t) r) ≡ placeFrom r
-          go none = refl
-          go (some e) = refl
+  unfolding addrOf openedPlace stopPlace
+  addr-agrees key = rw (accepted-opens a) (at-stop key stopPlace placeFrom refl (λ i x s. refl) (λ e q. refl))
 
   -- ---- smallest and largest
 
