@@ -13,7 +13,7 @@
 //! d HIGH LOW          get_addr
 //! ```
 //!
-//! An answer is document 01's number, and after 0 the results; a refusal's results are zeros and are
+//! An answer is the number of docs/RULES.md, and after 0 the results; a refusal's results are zeros and are
 //! not written. A panic of the original is the word `panic`.
 //!
 //! ```text
@@ -52,7 +52,7 @@ pub enum Call {
     Steps(Vec<End>),
 }
 
-/// Document 01's refusals with its numbers. The original knows only two of them.
+/// The refusals with their numbers (docs/RULES.md, R). The original knows only two of them.
 #[derive(Clone, Copy, Debug, PartialEq, Eq)]
 pub enum Refusal {
     Shape = 1,

@@ -4,7 +4,7 @@
 //! On a damaged image the original can panic, and it can run for ever: round a node that is below
 //! itself, or in a listing round index 0, which it takes for an inner node, with memory growing all
 //! the while. There is no time limit here. On damaged images ask only for what visits records that
-//! pass document 01's tests, where every path ends.
+//! pass the rules' tests, where every path ends.
 
 use crate::layout::Layout;
 use original::critbit::{Critbit, CritbitNode};

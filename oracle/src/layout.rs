@@ -1,4 +1,4 @@
-//! Where each field stands in an image, counted in 32-bit words: document 01's table.
+//! Where each field stands in an image, counted in 32-bit words: the rules' table (docs/RULES.md, I).
 
 pub const ROOT: usize = 2;
 pub const NODE_SIZE: usize = 4;

@@ -1,4 +1,4 @@
--- The chain of freed records, from the head through register 0 of each to the bump: document 01, "each chain from head ends at bump". Adding a record takes the chain's
+-- The chain of freed records, from the head through register 0 of each to the bump: rule T15. Adding a record takes the chain's
 -- first, or the one at the bump where the chain is empty, and removing a record puts it in front.
 use mathlib.Core.Path.{_≡_, refl, sym, ap, subst, _∙_}
 use mathlib.Core.List.{List, [], _∷_}

@@ -1,4 +1,4 @@
--- What the contracts of `board` cite: the bytes of the output and of the scratch after each call, and what document 01 promises of them.
+-- What the contracts of `board` cite: the bytes of the output and of the scratch after each call, and what the rules promise of them.
 pub mod Output
 pub mod Scratch
 pub mod Promises

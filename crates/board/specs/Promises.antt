@@ -1,4 +1,4 @@
--- What document 01 promises of the board's calls: each number "when, and only then", in the bytes that C lends; what the output holds after each; and that no second outcome fits. (The image is only
+-- What the rules promise of the board's calls: each number "when, and only then", in the bytes that C lends; what the output holds after each; and that no second outcome fits. (The image is only
 -- read: both contracts lend it for reading.)
 use mathlib.Core.Path.{_≡_, refl, sym, ap, _∙_}
 use mathlib.Core.List.{List, _∷_, _++_}

@@ -1,4 +1,4 @@
--- The scratch of the full check, byte by byte: document 01, "a word is four bytes there as in a file, scratch too" and "after any outcome but refusal 1 its first M words are zero, the rest kept".
+-- The scratch of the full check, byte by byte: rules I2 and T17.
 use mathlib.Core.Path.{_≡_, refl, sym, ap, _∙_}
 use mathlib.Core.List.{List, [], _∷_, _++_}
 use mathlib.Core.Bool.{Bool, true, false, cond}

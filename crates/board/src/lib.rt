@@ -1,6 +1,6 @@
 // What C firmware calls: lookup and the full check, on an image in the firmware's own bytes.
 //
-// Nothing is copied, allocated or kept between calls. A key comes as its high and its low word; each answer is document 01's number. The C side is include/logfringe.h.
+// Nothing is copied, allocated or kept between calls. A key comes as its high and its low word; each answer is the number of docs/RULES.md, section R. The C side is include/logfringe.h.
 use full_check::check;
 use keys::Key;
 use lookup::get::get;

@@ -1,4 +1,4 @@
--- What a line is answered: document 01, "`i K V` answers `ok INDEX` or `full`; `r K` `gone V` or `none`; `g K` `val V` or `none`; `w K V` `set` or `none`; `n` and `x` (smallest, largest) `K V` or
+-- What a line is answered: the rules C, "`i K V` answers `ok INDEX` or `full`; `r K` `gone V` or `none`; `g K` `val V` or `none`; `w K V` `set` or `none`; `n` and `x` (smallest, largest) `K V` or
 -- `none`; `a` one `K V` a line, then `end COUNT`". Every line ends in LF (10). A refusal that the program's own map never gives (1, 2, 5, 6) is answered `bad`.
 use mathlib.Core.Path.{_≡_, refl, sym, ap, _∙_}
 use mathlib.Core.List.{List, [], _∷_, _++_, append-assoc}

@@ -1,4 +1,4 @@
--- The full check on document 01's bench examples, "A is 2^127, B is 0, C is 1; M = 4, N = 8, 140 words": the started image and the one that holds A, B and C are accepted, and the latter is refused
+-- The full check on the bench examples of the rules B, "A is 2^127, B is 0, C is 1; M = 4, N = 8, 140 words": the started image and the one that holds A, B and C are accepted, and the latter is refused
 -- where one word of it is bent.
 use mathlib.Core.Path.{_≡_, refl}
 use mathlib.Core.List.{List, [], _∷_, _++_}

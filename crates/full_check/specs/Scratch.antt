@@ -1,4 +1,4 @@
--- What the check leaves of the scratch, byte by byte: document 01, "after any outcome but refusal 1 its first M words are zero, the rest kept". The first M words are a part of
+-- What the check leaves of the scratch, byte by byte: rule T17. The first M words are a part of
 -- the lent buffer: the laws of such a part.
 use mathlib.Core.Path.{_≡_, refl, sym, ap, _∙_}
 use mathlib.Core.List.{List, [], _∷_, _++_}

@@ -1,11 +1,12 @@
 -- Blank memory and accepted images: no image is both, so start refuses an accepted image and every other call refuses blank memory; neither changes a word.
 use mathlib.Core.Path.{_≡_, refl, sym, _∙_}
 use mathlib.Core.List.{List}
-use mathlib.Core.Bool.{Bool, true, false, cond, true≢false}
+use mathlib.Core.Bool.{Bool, true, false, cond, _&&_, true≢false}
 use Prim.Native.Nat.{ℕ}
 use native.Mathlib.Omega.{arith}
 use lib.ListN.{length, getD}
 use lib.Dec.{leb}
+use Rattle.words.specs.Tests.{and-r}
 use Rattle.words.specs.Zeros.{zerosAt, zeros-exact}
 use Rattle.keys.specs.declared.Key.{Key}
 use Rattle.inspection.specs.declared.Opened.the-variants.{Shut}
@@ -15,10 +16,11 @@ use Rattle.records.specs.declared.Done.the-variants as done
 use Rattle.records.specs.declared.Got.the-variants as got
 use Rattle.records.specs.declared.Place.the-variants as place
 use Rattle.records.specs.Records.{headerOf}
+use Rattle.inspection.specs.Tests.{frontOk, spareOk, headerOk, topOk}
 use Rattle.inspection.specs.Room.{Shaped}
-use Rattle.inspection.specs.Opening.{openOf}
+use Rattle.inspection.specs.Opening.{openOf, blankOf}
 use Rattle.inspection.specs.Answers.{Opens, misshapen, unsound, sound, opens}
-use Rattle.lookup.specs.Start.{startOf, doneImage, startImage, lengthOf, openedLength, capacityOf, openedCapacity}
+use Rattle.lookup.specs.Start.{startOf, doneImage, startImage, lengthOf, openedLength, capacityReply, openedCapacity}
 use Rattle.lookup.specs.Get.{targetOf, openedTarget, targetGot, getOf, targetDone, writeOf, targetImage, writeImage, openedDone, containsOf, openedPlace, addrOf}
 use Rattle.lookup.specs.Ends.{openedEntry, endEntry}
 use Rattle.insert.specs.Steps.{insertOf, insertImage, planPlace}
@@ -45,7 +47,7 @@ never-blank {m} {n} {ws} a b = omega (arith, a .header .nodes .bump-some, bump-w
 -- ---- start on an accepted image
 
 pub start-refused : {m n : ℕ} {ws : List ℕ} → Accepted m n ws → (startOf m n ws ≡ done.Refused no.NotBlank) × (startImage m n ws ≡ ws)
-unfolding startImage doneImage startOf
+unfolding startImage doneImage blankOf
 start-refused {m} {n} {ws} a = go (zerosAt ws 0 (length ws)) refl
   where
     go : (b : Bool) → zerosAt ws 0 (length ws) ≡ b → (startOf m n ws ≡ done.Refused no.NotBlank) × (startImage m n ws ≡ ws)
@@ -57,16 +59,20 @@ start-refused {m} {n} {ws} a = go (zerosAt ws 0 (length ws)) refl
 -- ---- every other call on blank memory
 
 module _ (m n : ℕ) (ws : List ℕ) (shape : Shaped m n (length ws)) (blank : Blank ws) where
+  header-part : topOk m n ws ≡ true → headerOk m n (headerOf n ws) ≡ true
+  unfolding topOk
+  header-part q = and-r (frontOk ws && spareOk ws) (headerOk m n (headerOf n ws)) q
+
   pub shut-blank : openOf m n ws ≡ Shut no.Damaged
   shut-blank = go (opens m n ws)
     where
       go : Opens m n ws → openOf m n ws ≡ Shut no.Damaged
       go (misshapen p o) = absurd (true≢false (sym (shape-passes shape) ∙ p))
       go (unsound p q o) = o
-      go (sound h p q o) = absurd (omega (arith, header-rules m n (headerOf n ws) q .nodes .bump-some, bump-word n ws, blank 6))
+      go (sound h p q o) = absurd (omega (arith, header-rules m n (headerOf n ws) (header-part q) .nodes .bump-some, bump-word n ws, blank 6))
 
   pub reply-blank : (q : Question) → questionAnswer m n q ws ≡ blankReply m q
-  unfolding targetOf openedTarget targetGot getOf openedDone containsOf openedPlace addrOf lengthOf openedLength capacityOf openedCapacity openedEntry endEntry openedCheck checkShape checkOf
+  unfolding targetOf openedTarget targetGot getOf openedDone containsOf openedPlace addrOf lengthOf openedLength capacityReply openedCapacity openedEntry endEntry openedCheck checkShape checkOf
   reply-blank (get key) = rw shut-blank
   reply-blank (contains key) = rw shut-blank
   reply-blank (address key) = rw shut-blank

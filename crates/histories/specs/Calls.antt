@@ -2,7 +2,7 @@
 -- read the image and have their own file.
 use mathlib.Core.List.{List, [], _∷_}
 use Prim.Native.Nat.{ℕ}
-use Rattle.lookup.specs.Start.{startOf, startImage, lengthOf, capacityOf}
+use Rattle.lookup.specs.Start.{startOf, startImage, lengthOf, capacityReply}
 use Rattle.lookup.specs.Get.{getOf, containsOf, writeOf, writeImage, addrOf}
 use Rattle.lookup.specs.Ends.{smallestOf, largestOf}
 use Rattle.insert.specs.Steps.{insertOf, insertImage}
@@ -17,7 +17,7 @@ questionAnswer m n (get key) ws = got-is (getOf m n ws key)
 questionAnswer m n (contains key) ws = done-is (containsOf m n ws key)
 questionAnswer m n (address key) ws = place-is (addrOf m n ws key)
 questionAnswer m n len ws = count-is (lengthOf m n ws)
-questionAnswer m n capacity ws = count-is (capacityOf m n ws)
+questionAnswer m n capacity ws = count-is (capacityReply m n ws)
 questionAnswer m n smallest ws = entry-is (smallestOf m n ws)
 questionAnswer m n largest ws = entry-is (largestOf m n ws)
 questionAnswer m n (check scratch) ws = done-is (checkOf m n ws scratch)

@@ -15,7 +15,7 @@ use Rattle.records.specs.declared.Value.{Value}
 use Rattle.records.specs.declared.Refusal.the-variants as no
 use Rattle.records.specs.declared.Done.the-variants as done
 use Rattle.records.specs.declared.Place.the-variants as place
-use Rattle.records.specs.Records.{headerOf, nodeOf}
+use Rattle.records.specs.Records.{headerOf, nodeOf, leafNode}
 use Rattle.inspection.specs.Room.{Shaped}
 use Rattle.lookup.specs.Get.{addrOf}
 use Rattle.lookup.specs.Promises.{start-kept, set-kept}
@@ -35,7 +35,6 @@ use Rattle.listing.specs.declared.Position.{Position}
 use Rattle.trees.specs.Map.{shapeIs}
 use Rattle.trees.specs.Shape.{shape}
 use Rattle.record_views.specs.Small.{Small}
-use Rattle.accepted.specs.Rules.{leafNode}
 use Rattle.accepted.specs.Accepted.{Accepted}
 use Rattle.accepted.specs.Tests.{shape-passes}
 use Rattle.accepted_lookup.specs.Answers.{listed}
@@ -123,7 +122,7 @@ pub full-refuses : {m n : ℕ} {ws : List ℕ} (a : Accepted m n ws) (key : Key)
     → (insertOf m n ws key ≡ place.Refused no.Full) × (insertImage m n ws key v ≡ ws)
 full-refuses a key f v g e = insert-full a key f v g e
 
--- "The check accepts exactly the images that meet document 01's rules."
+-- "The check accepts exactly the images that meet the rules."
 pub check-is-exact : (m n : ℕ) (ws scratch : List ℕ) → Small ws → Shaped m n (length ws) → m ≤ length scratch → Exact m n ws scratch
 check-is-exact m n ws scratch small shape l = check-exact m n ws scratch small (shape-passes shape) l
 

@@ -18,7 +18,7 @@ use Rattle.records.specs.declared.Value.{Value}
 use Rattle.records.specs.declared.Refusal.the-variants as no
 use Rattle.records.specs.declared.Place.{Place}
 use Rattle.records.specs.declared.Place.the-variants as place
-use Rattle.records.specs.Records.{headerOf, nodeOf}
+use Rattle.records.specs.Records.{headerOf, nodeOf, leafNode}
 use Rattle.lookup.specs.Get.{addrOf}
 use Rattle.insert.specs.Steps.{insertOf, insertImage}
 use Rattle.lists.specs.Entries.{same, held}
@@ -28,7 +28,7 @@ use Rattle.trees.specs.Keys.{bit, shared}
 use Rattle.trees.specs.Tree.{Tree, leaf, inner, Ordered}
 use Rattle.trees.specs.Lookup.{lookup}
 use Rattle.trees.specs.Map.{Map, lookupIn, OrderedMap}
-use Rattle.accepted.specs.Rules.{Holds, leafNode}
+use Rattle.accepted.specs.Rules.{Holds}
 use Rattle.accepted.specs.Accepted.{Accepted, HoldsMap}
 use Rattle.accepted_lookup.specs.Answers.{listed, placeFrom, addr-agrees}
 use Rattle.accepted_insert.specs.Call.{insert-agrees}

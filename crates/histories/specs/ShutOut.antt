@@ -1,4 +1,4 @@
--- Document 01, "Empty versions to shut out": calls that refuse always, answer one thing, do nothing or make up their counts do not fit. An insert is seen by the next get and counted by the next length,
+-- The rules E, empty versions to shut out: calls that refuse always, answer one thing, do nothing or make up their counts do not fit. An insert is seen by the next get and counted by the next length,
 -- on every accepted image; and one history of calls on blank memory, whose answers no function of the call alone gives.
 use mathlib.Core.Path.{_≡_, refl, sym, ap, _∙_}
 use mathlib.Core.List.{List, [], _∷_, map}

@@ -1,4 +1,4 @@
--- What the contracts of `insert` cite: what insert tests, and the words that it leaves; then what follows of them, and document 01's examples.
+-- What the contracts of `insert` cite: what insert tests, and the words that it leaves; then what follows of them, and the examples of the rules B.
 pub mod Plan
 pub mod Steps
 pub mod Ready

@@ -1,5 +1,5 @@
 -- Bits and common prefixes: below `common a b` the bits of two numbers agree, and at `common a b` they differ. So a descent "by the key's bit at the
--- prefix length" (document 01, "Steps of each call") parts the numbers that share no more than the prefix.
+-- prefix length" (the rules S) parts the numbers that share no more than the prefix.
 use mathlib.Core.Path.{_≡_, refl, sym, ap, _∙_}
 use mathlib.Core.Logic.{_≢_}
 use mathlib.Core.Bool.{Bool, true, false, false≢true, and-eq-true-iff}

@@ -1,4 +1,4 @@
--- The number of leading equal bits of two keys, which "is 0..128, 128 for equal keys" (document 01, "Steps of each call"), and the bit of a key at a
+-- The number of leading equal bits of two keys, which "is 0..128, 128 for equal keys" (the rules S), and the bit of a key at a
 -- place, where "bit 0 is the most significant" ("The part that is ported").
 use mathlib.Core.Bool.{Bool, _&&_, cond}
 use Prim.Native.Nat.{ℕ, zero, suc, _-_, _/_, _%_, _^_}

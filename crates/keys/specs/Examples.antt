@@ -1,4 +1,4 @@
--- The counts that document 01 works out, "Bench examples": "A is 2^127, B is 0, C is 1", and "Leading equal bits: A,B 0; high word 1 against 0, 63;
+-- The counts that the bench examples of the rules B work out: "A is 2^127, B is 0, C is 1", and "Leading equal bits: A,B 0; high word 1 against 0, 63;
 -- low word 2^63 against 0, 64; B,C 127".
 use mathlib.Core.Path.{_≡_, refl}
 use Prim.Native.Nat.{ℕ, _^_}

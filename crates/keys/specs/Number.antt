@@ -1,4 +1,4 @@
--- A key as a number. "A key is two 64-bit words, high and low; bit 0 is the most significant" (document 01, "The part that is ported"), so the
+-- A key as a number. "A key is two 64-bit words, high and low; bit 0 is the most significant" (the rules P), so the
 -- high word is the upper half of a 128-bit number.
 use mathlib.Core.Path.{_≡_, sym, ap, _∙_}
 use Prim.Native.Nat.{ℕ, _+_, _*_, _/_, _%_, _^_, _<_}

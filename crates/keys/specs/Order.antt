@@ -1,6 +1,5 @@
 -- Order and common prefixes: what lies between two numbers shares what they share, and two that part at a bit are ordered by it. So leaves with
--- "bit p 0 on the left and 1 on the right" (document 01, "Tests of a record") stand from left to right as in "the ascending list" ("The part that is
--- ported").
+-- "bit p 0 on the left and 1 on the right" (the rules T) stand from left to right as in the ascending list (the rules P).
 use mathlib.Core.Path.{_≡_, refl, sym, ap, _∙_}
 use mathlib.Core.Logic.{_↔_}
 use mathlib.Core.Bool.{Bool, true, false}

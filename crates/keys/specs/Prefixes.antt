@@ -1,4 +1,4 @@
--- Common prefixes. That one number "shares the first p bits" of another (document 01, "Tests of a record") is `p ≤ common a b`: here is what it says
+-- Common prefixes. That one number "shares the first p bits" of another (the rules T) is `p ≤ common a b`: here is what it says
 -- of the two, and how the counts of three go together.
 use mathlib.Core.Path.{_≡_, refl, sym, _∙_}
 use mathlib.Core.Logic.{_↔_}

@@ -1,4 +1,4 @@
--- "The number of leading equal bits" (document 01, "Steps of each call") at any width: it is the largest number of leading bits in which two numbers
+-- "The number of leading equal bits" (the rules S) at any width: it is the largest number of leading bits in which two numbers
 -- agree.
 use mathlib.Core.Path.{_≡_, refl, sym, ap, _∙_}
 use mathlib.Core.Logic.{_≢_, _↔_}

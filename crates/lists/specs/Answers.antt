@@ -1,4 +1,4 @@
--- Answers: every call's answer as one type, with document 01's number of it, and what the list's results are as answers. The answer types and the numbers of refusals are those of crate `records`.
+-- Answers: every call's answer as one type, with its number, and what the list's results are as answers. The answer types and the numbers of refusals are those of crate `records`.
 use mathlib.Core.Bool.{Bool, true, false}
 use mathlib.Core.Option.{Option, none, some}
 use Prim.Native.Nat.{ℕ}
@@ -23,7 +23,7 @@ pub data Answer : Type 0 where
   entry-is : Entry → Answer
   count-is : Count → Answer
 
--- document 01's number of an answer
+-- the number of an answer: the rules R
 unfoldable pub numberIn : Answer → ℕ
 numberIn (done-is d) = doneNumber d
 numberIn (got-is g) = gotNumber g

@@ -1,4 +1,4 @@
--- What the list's machine computes on short histories: each line is an equation that holds by computation alone. The keys are those of document 01's bench examples, "A is 2^127, B is 0, C is 1".
+-- What the list's machine computes on short histories: each line is an equation that holds by computation alone. The keys are those of the bench examples of the rules B, "A is 2^127, B is 0, C is 1".
 use mathlib.Core.Path.{_≡_, refl}
 use mathlib.Core.List.{[], _∷_, map}
 use Prim.Native.Nat.{ℕ, _^_}

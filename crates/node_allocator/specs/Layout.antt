@@ -1,4 +1,4 @@
--- Where the two arenas of an image stand: document 01, "The image, in 32-bit words". The nodes' header is words 4 to 7, node 1 begins at word 8 and a node has
+-- Where the two arenas of an image stand: rules I4 to I8. The nodes' header is words 4 to 7, node 1 begins at word 8 and a node has
 -- 12 words; the values' header is the four words behind the nodes, and a value record has 8 words.
 use mathlib.Core.Bool.{Bool, _&&_}
 use Prim.Native.Nat.{ℕ, _+_, _-_, _*_, _≤_}

@@ -1,4 +1,4 @@
--- The image that a lent buffer holds: document 01, "The image, in 32-bit words". Where its arenas stand is in `node_allocator`'s Layout.
+-- The image that a lent buffer holds: rules I1 to I9. Where its arenas stand is in `node_allocator`'s Layout.
 use mathlib.Core.List.{List, []}
 use mathlib.Core.Bool.{cond}
 use Prim.Native.Nat.{ℕ, _+_, _*_, _%_}

@@ -1,4 +1,4 @@
--- Document 01's number of each answer, and the values that come with it: "Refusal numbers". 0 is the number of a call that does not refuse, and every number of a
+-- The number of each answer, and the values that come with it: the rules R. 0 is the number of a call that does not refuse, and every number of a
 -- refused answer is 0.
 use mathlib.Core.Bool.{Bool, true, false}
 use Prim.Native.Nat.{ℕ}

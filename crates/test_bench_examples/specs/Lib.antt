@@ -1,2 +1,2 @@
--- Document 01's starred bench examples.
+-- The starred bench examples of the rules B.
 pub mod Table

@@ -1,4 +1,4 @@
-// Document 01's bench examples that are run: the leading equal bits, the limits of M and N, images of other lengths, and the path of 129 nodes. The starred ones are proved: specs/Table.antt.
+// The bench examples of the rules B that are run: the leading equal bits, the limits of M and N, images of other lengths, and the path of 129 nodes. The starred ones are proved: specs/Table.antt.
 use keys::Key;
 use keys::leading_equal;
 use records::Done;

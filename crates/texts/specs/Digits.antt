@@ -1,4 +1,4 @@
--- Numbers as text and back: document 01, "keys and values are 32 lowercase hex digits", "INDEX and COUNT" in decimal without leading zeros.
+-- Numbers as text and back: the rules C, keys and values in 32 lowercase hexadecimal digits, indexes and counts in decimal without leading zeros.
 use mathlib.Core.Path.{_≡_, refl, sym, ap, _∙_}
 use mathlib.Core.List.{List, [], _∷_, _++_, append-assoc, append-nil}
 use mathlib.Core.Bool.{Bool, true, false, cond, _&&_, _||_}

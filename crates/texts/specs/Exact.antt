@@ -1,4 +1,4 @@
--- What a line that is not bad looks like: it is its command's own text, byte for byte, and the text of a command asks for that command. So the definitions by places in Lines say what document 01 says in
+-- What a line that is not bad looks like: it is its command's own text, byte for byte, and the text of a command asks for that command. So the definitions by places in Lines say what the rules C say in
 -- words: "one space parts the fields; keys and values are 32 lowercase hex digits, high or first word first", and nothing else is taken.
 use mathlib.Core.Path.{_≡_, refl, sym, ap, _∙_}
 use mathlib.Core.List.{List, [], _∷_, _++_, append-assoc, append-nil}

@@ -1,4 +1,4 @@
--- What a line asks: document 01, "The first byte of a line picks the command; one space parts the fields; keys and values are 32 lowercase hex digits, high or first word first". Anything else on a line
+-- What a line asks: the rules C, "The first byte of a line picks the command; one space parts the fields; keys and values are 32 lowercase hex digits, high or first word first". Anything else on a line
 -- is bad: other letters, other bytes, other lengths, so also an empty line and one of more than 80 bytes.
 use mathlib.Core.List.{List}
 use mathlib.Core.Bool.{cond, _&&_}

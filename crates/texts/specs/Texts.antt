@@ -1,4 +1,4 @@
--- The words of an answer: document 01's `full`, `none`, `set` and `bad`, keys and values as 32 hexadecimal digits, `end COUNT`. Every line ends in LF (10). A refusal that the program's own map never gives (1, 2, 5, 6)
+-- The words of an answer: the rules' `full`, `none`, `set` and `bad`, keys and values as 32 hexadecimal digits, `end COUNT`. Every line ends in LF (10). A refusal that the program's own map never gives (1, 2, 5, 6)
 -- is written `bad`.
 use mathlib.Core.List.{List, [], _∷_, _++_}
 use mathlib.Core.Bool.{cond}

@@ -1,4 +1,4 @@
--- The bench examples of document 01, on trees: "A is 2^127, B is 0, C is 1". A is inserted into the empty map, then B, then C.
+-- The bench examples of the rules B, on trees: "A is 2^127, B is 0, C is 1". A is inserted into the empty map, then B, then C.
 use mathlib.Core.Path.{_≡_, refl}
 use mathlib.Core.Bool.{true, false}
 use mathlib.Core.Option.{none, some}

@@ -1,5 +1,5 @@
 -- Insert into a tree. "Equal leaf: the value is replaced, that node's index returned. Else at node x, which shares fewer bits than its prefix: .. x becomes
--- inner with the new key, the shared length, and both as children", the new leaf and "a copy of x" (document 01, "Steps of each call"). The tree stays
+-- inner with the new key, the shared length, and both as children", the new leaf and "a copy of x" (the rules S). The tree stays
 -- ordered, and its entries are those of the ascending list after the insert.
 use mathlib.Core.Path.{_≡_, refl, ap, sym, _∙_}
 use mathlib.Core.Logic.{inl, inr}

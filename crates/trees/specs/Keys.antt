@@ -1,5 +1,5 @@
 -- Keys as trees use them: the number of leading bits that two keys share, a key's bit at a place, and whether two keys are one. That a key "shares the first p
--- bits" of another (document 01, "Tests of a record") is `p ≤ shared a b`: it holds for every smaller p too.
+-- bits" of another (the rules T) is `p ≤ shared a b`: it holds for every smaller p too.
 use mathlib.Core.Path.{_≡_, refl, sym, _∙_}
 use mathlib.Core.Logic.{_≢_, _⊎_, inl, inr}
 use mathlib.Core.Bool.{Bool, true, false, not, cond, true≢false}

@@ -1,5 +1,5 @@
 -- Lookup "descends by the key's bit at the prefix length; it stops at the first node whose prefix the key does not share and answers absent. At a leaf the
--- whole key is compared. Remove compares no prefix on its way, only the leaf" (document 01, "Steps of each call"). Both find what the ascending list
+-- whole key is compared. Remove compares no prefix on its way, only the leaf" (the rules S). Both find what the ascending list
 -- holds; and the smallest and the largest key are reached by turning always to one side.
 use mathlib.Core.Path.{_≡_, refl, sym, _∙_}
 use mathlib.Core.Logic.{_≢_, inl, inr}

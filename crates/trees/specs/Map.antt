@@ -1,4 +1,4 @@
--- The map: empty, or a tree. "the ascending list decides what a map means" (document 01, "The part that is ported"): insert, remove and lookup on the map are
+-- The map: empty, or a tree. "the ascending list decides what a map means" (the rules P): insert, remove and lookup on the map are
 -- those on its list, with nothing assumed but order, and order stays.
 use mathlib.Core.Path.{_≡_, refl, ap, sym, _∙_}
 use mathlib.Core.Logic.{inl, inr}

@@ -1,5 +1,5 @@
--- The nodes of a tree: their indexes, and what each one's record holds, "Left, Right, Parent, Value, key .., prefix length" (document 01, "The image, in 32-bit
--- words"). Two trees that differ only below a node differ only in the records there.
+-- The nodes of a tree: their indexes, and what each one's record holds, "Left, Right, Parent, Value, key .., prefix length" (the rules I).
+-- Two trees that differ only below a node differ only in the records there.
 use mathlib.Core.Path.{_≡_, refl, ap, sym, subst, _∙_}
 use mathlib.Core.Logic.{_⊎_, inl, inr}
 use mathlib.Core.Bool.{Bool, true, false}

@@ -1,4 +1,4 @@
--- Paths. On the way down "the prefix length exceeds that node's" we came from (document 01, "Tests of a record"), since the leaves say so. So no path has more
+-- Paths. On the way down "the prefix length exceeds that node's" we came from (the rules T), since the leaves say so. So no path has more
 -- nodes than the smaller of the number of entries and 129; and 129 is reached: "B and all 128 powers of two: B's path is 129 nodes" ("Bench examples").
 use mathlib.Core.Path.{_≡_, refl, sym, _∙_}
 use mathlib.Core.Bool.{Bool, true, false, cond}

@@ -1,5 +1,5 @@
--- Remove from a tree: it "copies the sibling into the parent" of the key's leaf, and "compares no prefix on its way, only the leaf" (document 01, "Steps of
--- each call"). The tree stays ordered, and its entries are those of the ascending list after the remove.
+-- Remove from a tree: it "copies the sibling into the parent" of the key's leaf, and "compares no prefix on its way, only the leaf" (the rules S).
+-- The tree stays ordered, and its entries are those of the ascending list after the remove.
 use mathlib.Core.Path.{_≡_, refl, sym, _∙_}
 use mathlib.Core.Logic.{inl, inr}
 use mathlib.Core.Bool.{Bool, true, false, cond, not, Bool·not-not}

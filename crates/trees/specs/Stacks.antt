@@ -1,5 +1,5 @@
 -- The stacks of a listing. A stack holds subtrees that hang off one path, and prefix lengths rise along it, so "two stacks of at most 129 node indexes"
--- (document 01, "Listing") are enough at every moment, also between the two pushes of an inner node and the pop that follows, in every order of the steps.
+-- (the rules L) are enough at every moment, also between the two pushes of an inner node and the pop that follows, in every order of the steps.
 use mathlib.Core.Path.{_≡_, refl}
 use mathlib.Core.Bool.{Bool, true, false, cond}
 use mathlib.Core.Option.{none, some}

@@ -1,5 +1,5 @@
 -- Crit-bit trees. A node "is a leaf .. or an inner node" with a key and a prefix length p; "every leaf below an inner node shares the first p bits of that
--- node's key .., has bit p 0 on the left and 1 on the right" (document 01, "Tests of a record"). The leaves of such a tree stand in ascending order.
+-- node's key .., has bit p 0 on the left and 1 on the right" (the rules T). The leaves of such a tree stand in ascending order.
 use mathlib.Core.Path.{_≡_, refl}
 use mathlib.Core.Bool.{Bool, true, false, not}
 use mathlib.Core.List.{List, [], _∷_, _++_, map, map-append}

@@ -1,4 +1,4 @@
--- The value records that the entries name: "the n leaves name n different value records" (document 01, "Tests of a record"), and index 0 means none. Insert and
+-- The value records that the entries name: "the n leaves name n different value records" (the rules T), and index 0 means none. Insert and
 -- remove keep it so.
 use mathlib.Core.Path.{sym}
 use mathlib.Core.Logic.{_≢_}

@@ -1,4 +1,4 @@
--- Listing from both ends. A position is "two stacks .., the last value index given at each end, and an ended mark" (document 01, "Listing"); a stack here holds
+-- Listing from both ends. A position is "two stacks .., the last value index given at each end, and an ended mark" (the rules L); a stack here holds
 -- the subtrees themselves. Each end walks the whole tree from its side, and they meet where an end comes to the entry that the other one gave last. Whatever
 -- the order of the steps, they take the entries from the two ends of the ascending list, each entry once, one entry a step, and then none for ever.
 use mathlib.Core.Path.{_≡_, refl, ap, ap₂, sym, subst, _∙_}

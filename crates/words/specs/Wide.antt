@@ -1,4 +1,4 @@
--- Two words as one 64-bit number, the low word first: document 01, "64-bit fields and keys are stored low word first". A number that was stored is
+-- Two words as one 64-bit number, the low word first: rule I2. A number that was stored is
 -- read back, and no word but its two changes.
 use mathlib.Core.Path.{_≡_, refl, sym, ap, _∙_}
 use mathlib.Core.List.{List}

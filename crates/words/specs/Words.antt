@@ -1,4 +1,4 @@
--- A lent buffer of bytes as 32-bit words, lowest byte first: document 01, "In a file each word is four bytes, lowest first". The laws that callers
+-- A lent buffer of bytes as 32-bit words, lowest byte first: rule I2. The laws that callers
 -- lean on: how many words there are, what a store leaves of each, and that on whole words equal words are equal bytes.
 use mathlib.Core.Path.{_≡_, refl, ap, sym, _∙_}
 use mathlib.Core.List.{List, [], _∷_}

@@ -1,4 +1,4 @@
--- A run of words that are all 0: document 01's never-used records ("twelve zero words", "eight zero words") and blank memory. And a buffer whose words become 0 one by one.
+-- A run of words that are all 0: never-used records, which are zeros (rule T13), and blank memory. And a buffer whose words become 0 one by one.
 use mathlib.Core.Path.{_≡_, refl, sym, ap, _∙_}
 use mathlib.Core.List.{List, [], _∷_, _++_}
 use mathlib.Core.Logic.{_↔_, _≢_, ⊎-elim}

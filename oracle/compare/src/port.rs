@@ -108,7 +108,7 @@ pub fn refused(number: u32) -> Answer {
         4 => Refusal::Absent,
         5 => Refusal::NotBlank,
         6 => Refusal::Cursor,
-        _ => panic!("no number of document 01: {number}"),
+        _ => panic!("no number of the rules: {number}"),
     })
 }
 

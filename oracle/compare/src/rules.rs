@@ -1,9 +1,9 @@
-//! An independent reading of document 01's tests of a record: the full check, and lookup with its tests. It stands on
-//! document 01 alone, is written for clearness and keeps marks in memory of its own; the port and the original are judged by it.
+//! An independent reading of the rules' tests of a record: the full check, and lookup with its tests. It stands on
+//! the rules alone, is written for clearness and keeps marks in memory of its own; the port and the original are judged by it.
 
 use oracle::image::{Key, Value};
 
-/// Document 01's number for a shape, a damaged image, an absent key.
+/// The number for a shape, a damaged image, an absent key.
 pub const SHAPE: u32 = 1;
 pub const DAMAGED: u32 = 2;
 pub const ABSENT: u32 = 4;
@@ -41,7 +41,7 @@ struct Place {
     above: Vec<(u32, bool)>,
 }
 
-/// Whether M, N and the number of words fit document 01's limits.
+/// Whether M, N and the number of words fit the limits.
 pub fn shape(words: &[u32], m: u32, n: u32) -> bool {
     (1..=4096).contains(&m)
         && n >= 2 * m
@@ -70,7 +70,7 @@ pub fn accepted(words: &[u32], m: u32, n: u32) -> bool {
         && record.never_used()
 }
 
-/// Lookup's number and value by document 01's steps and tests, on any image.
+/// Lookup's number and value by the rules' steps and tests, on any image.
 pub fn lookup(words: &[u32], m: u32, n: u32, key: Key) -> (u32, Value) {
     if !shape(words, m, n) {
         return (SHAPE, [0, 0]);

@@ -1,4 +1,4 @@
-//! Replays on the original document 01's bench examples, its whole case of the command program, and
+//! Replays on the original the bench examples of the rules B, its whole case of the command program, and
 //! the places where it says that the original panics or tests less.
 
 use oracle::apply::guarded;

@@ -2,7 +2,7 @@
 //!
 //!     commands < LINES
 //!
-//! The lines are read as document 01 says, by code that shares nothing with the port. M is 256 and N 512.
+//! The lines are read as the rules C say, by code that shares nothing with the port. M is 256 and N 512.
 
 use oracle::apply::apply;
 use oracle::history::{Answer, Call, Refusal};

@@ -1,4 +1,4 @@
-//! Compares document 01's layout table with the original's memory, for every pair M, N: the sizes,
+//! Compares the layout table of the rules I with the original's memory, for every pair M, N: the sizes,
 //! every field that the original's public functions read, and all words after known calls.
 
 use oracle::apply::apply;

@@ -3,7 +3,7 @@
 //!     board_cases SEED
 //!
 //! Images that the original made in histories from blank memory, the same images damaged, and for each what lookup and the full check answer. The expectations stand on `rules`, an
-//! independent reading of document 01; a lookup that meets no damage is also asked of the original, on the same words. The form of the file is in board_test/board_test.c.
+//! independent reading of the rules; a lookup that meets no damage is also asked of the original, on the same words. The form of the file is in board_test/board_test.c.
 
 use compare::damage::damage;
 use compare::rules::{accepted, lookup, ABSENT, DAMAGED};
@@ -60,7 +60,7 @@ fn put_wide(out: &mut Vec<u32>, wide: u64) {
     out.extend([wide as u32, (wide >> 32) as u32]);
 }
 
-/// Document 01's bench example: A, B and C, then A removed, with M 4 and N 8.
+/// The rules' bench example: A, B and C, then A removed, with M 4 and N 8.
 fn bench_example() -> (Image, Vec<Key>) {
     let mut image = Image::blank(4, 8).expect("one of the pairs");
     let keys = [1 << 127, 0, 1];

@@ -1,4 +1,4 @@
-//! Compares the full check with a second, independent reading of document 01's rules (`rules.rs`) on damaged images, most of them by a single change:
+//! Compares the full check with a second, independent reading of the rules (`rules.rs`) on damaged images, most of them by a single change:
 //!
 //!     checks SEED COUNT
 //!

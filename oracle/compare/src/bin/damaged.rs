@@ -101,7 +101,7 @@ fn one(before: &[u32], original: &mut Image, m: u32, n: u32, call: &Call) -> boo
     answer == ABSENT
 }
 
-/// The original's answer, with document 01's for get_addr on an empty map.
+/// The original's answer, with the rules' for get_addr on an empty map.
 fn absent(original: &mut Image, call: &Call) -> Answer {
     match (guarded(original, call), call) {
         (Answer::Panic, Call::Address(_)) => ABSENT,

@@ -42,7 +42,7 @@ fn compare(seed: u64, count: usize, m: u32, n: u32, kind: Kind) -> usize {
         let answer = port.apply(&call).expect("no listing");
         let mut expected = guarded(&mut original, &call);
         if expected == Answer::Panic && matches!(call, Call::Address(_)) {
-            expected = ABSENT; // document 01: get_addr on an empty map
+            expected = ABSENT; // rule R6: get_addr on an empty map
         }
         assert_eq!(answer, expected, "M {m} N {n}, call {calls}: {call}");
         assert!(words == original.words(), "M {m} N {n}, call {calls}: {call}: words differ");

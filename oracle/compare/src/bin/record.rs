@@ -84,7 +84,7 @@ fn outcome(answer: &Answer) -> (u32, [u64; 4]) {
         Answer::Count(count) => (0, [*count, 0, 0, 0]),
         Answer::Entry((key, value)) => (0, [halves(*key).0, halves(*key).1, value[0], value[1]]),
         Answer::Refused(refusal) => (*refusal as u32, [0; 4]),
-        Answer::Panic => outcome(&ABSENT), // document 01: get_addr on an empty map is the only panic of a history
+        Answer::Panic => outcome(&ABSENT), // rule R6: get_addr on an empty map is the only panic of a history
         Answer::Steps(_) => unreachable!("listings are not recorded"),
     }
 }
