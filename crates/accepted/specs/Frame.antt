@@ -1,16 +1,22 @@
--- What the rules of an image depend on: its header, its nodes, its value records and its unused words. An image in which these stay as they were keeps every rule.
+-- What the rules of an image depend on: its header, its nodes, its value records and its unused words. What a row of stores leaves of these keeps its rules.
 use mathlib.Core.Path.{_≡_, refl, ap, subst, _∙_}
 use mathlib.Core.List.{List, [], _∷_}
 use mathlib.Core.Logic.{_≢_, inl, inr}
 use mathlib.Core.Option.{some}
-use Prim.Native.Nat.{ℕ, _+_, _-_, _≤_, _<_}
+use Prim.Native.Nat.{ℕ, _+_, _-_, _*_, _≤_, _<_}
 use native.Mathlib.Omega.{arith}
+use Rattle.words.specs.Zeros.{Zeros}
+use Rattle.node_allocator.specs.Layout.{nodeAt, valueAt}
 use Rattle.records.specs.declared.Header.{Header}
-use Rattle.records.specs.Records.{nodeOf, withParent}
+use Rattle.records.specs.declared.Node.{Node}
+use Rattle.records.specs.declared.ValueRecord.{ValueRecord}
+use Rattle.records.specs.Records.{headerOf, nodeOf, withParent}
 use Rattle.lists.specs.Lists.{All}
 use Rattle.trees.specs.Tree.{Tree, leaf, inner, top}
 use Rattle.trees.specs.Nodes.{In}
+use Rattle.record_views.specs.Stored.{Bounds, nodes, values, Stored}
 use Rattle.accepted.specs.Rules.{Holds, Chain}
+use Rattle.accepted.specs.Accepted.{Accepted}
 use Rattle.accepted.specs.Held.{once}
 
 -- a tree is held where its nodes' records stay, and the bumps do not fall
@@ -71,3 +77,26 @@ pub chain-range : (Free : ℕ → Type 0) (next : ℕ → ℕ) (bump i : ℕ) (x
 unfolding Chain
 chain-range Free next bump i [] c = tt
 chain-range Free next bump i (x ∷ xs) c = ((c .some, c .used, c .free), chain-range Free next bump (next x) xs (c .rest))
+
+-- ---- a row of stores
+
+-- the bounds of stores to records below the bumps
+pub accepted-bounds : {m n : ℕ} {ws : List ℕ} → Accepted m n ws → Bounds m n (headerOf n ws .nodes .bump) (headerOf n ws .values .bump)
+accepted-bounds a =
+    record {
+      few = a .shape .most-nodes;
+      some = a .header .nodes .bump-some;
+      most = a .header .nodes .bump-most;
+      few-values = a .shape .most;
+      some-values = a .header .values .bump-some;
+      most-values = a .header .values .bump-most;
+    }
+
+-- the unused words stay, from the bounds on
+module _ {m n b c : ℕ} {ws vs : List ℕ} {f : ℕ → Node → Node} {g : ℕ → ValueRecord → ValueRecord} {t : Header → Header} (s : Stored m n b c ws vs f g t) where
+  pub nodes-unused-after : {bump : ℕ} → bump ≤ b → Zeros ws (nodeAt bump) (12 * (n + 1 - bump)) → Zeros vs (nodeAt b) (12 * (n + 1 - b))
+  nodes-unused-after {bump} l z k low high =
+      s .kept .word k (nodes low (omega (arith, s .bounds .some, s .bounds .most))) ∙ z k (omega arith) (omega (arith, s .bounds .most))
+
+  pub values-unused-after : {bump : ℕ} → bump ≤ c → Zeros ws (valueAt n bump) (8 * (m + 1 - bump)) → Zeros vs (valueAt n c) (8 * (m + 1 - c))
+  values-unused-after {bump} l z k low high = s .kept .word k (values low) ∙ z k (omega arith) (omega (arith, s .bounds .most-values))

@@ -1,14 +1,16 @@
 -- Rules T1 to T14 as rules: what is so of a header, a node, a value record and a free record that pass. Nothing here is a test, a step or a call. That padding
 -- is zero (T1, T6, T11) is said of the whole image, in Accepted.
-use mathlib.Core.Path.{_≡_}
+use mathlib.Core.Path.{_≡_, refl}
 use mathlib.Core.List.{List, [], _∷_}
 use mathlib.Core.Logic.{_≢_, _↔_}
 use Prim.Native.Nat.{ℕ, _+_, _-_, _*_, _≤_, _<_}
 use Rattle.node_allocator.specs.declared.Counts.{Counts}
 use Rattle.records.specs.declared.Header.{Header}
 use Rattle.records.specs.declared.Node.{Node}
+use Rattle.records.specs.declared.Value.{Value}
 use Rattle.records.specs.declared.ValueRecord.{ValueRecord}
 use Rattle.records.specs.Records.{nodeOf, leafNode, innerNode, valueRecordOf}
+use Rattle.records.specs.Writes.{liveRecord}
 use Rattle.trees.specs.Tree.{Tree, leaf, inner, top}
 
 -- ---- Header
@@ -58,6 +60,10 @@ pub record Live (r : ValueRecord) : Type 0 where
   pub zero1 : r .register1 ≡ 0
   pub zero2 : r .register2 ≡ 0
   pub zero3 : r .register3 ≡ 0
+
+pub live-record : (i : ℕ) (v : Value) → Live (liveRecord i v)
+unfolding liveRecord
+live-record i v = record { zero0 = refl; zero1 = refl; zero2 = refl; zero3 = refl }
 
 -- ---- Free records: each names the next one, and the last the bump
 

@@ -138,7 +138,23 @@ module _ {m n : ℕ} {ws : List ℕ} (a : Accepted m n ws) where
   find-tree key (some t) k o =
       from-root (lookupTurn key) t k ∙ find-held (headerOf n ws) ws (accepted-clean a) key 129 0 0 t (short t o) (held-of t k)
 
-  -- and where a descent by sides does
+  -- what is made of a lookup's stop: at its leaf, or where the key is absent
+  pub at-stop : {B : Type 0} (key : Key) (F : Stop → B) (G : Option (ℕ × ℕ) → B) → F stop.Empty ≡ G none
+      → ((i : NodeIndex) (x : Node) (shared : ℕ) → F (stop.Parted i x shared) ≡ G none)
+      → ((e : ℕ × ℕ) → lookupIn key (a .tree) ≡ some e → F (stop.Leaf (at (e .0)) (nodeOf ws (e .0))) ≡ G (some e))
+      → F (findOf (headerOf n ws) ws key) ≡ G (lookupIn key (a .tree))
+  unfolding stopFrom
+  at-stop key F G empty parted leaf-at = rw (find-tree key (a .tree) (a .holds) (a .ordered)) (in-map (a .tree) leaf-at)
+    where
+      in-map : (t : Map) → ((e : ℕ × ℕ) → lookupIn key t ≡ some e → F (stop.Leaf (at (e .0)) (nodeOf ws (e .0))) ≡ G (some e)) → F (stopIn key t) ≡ G (lookupIn key t)
+      in-map none f = empty
+      in-map (some t) f = go (lookup key t) refl
+        where
+          go : (r : Option (ℕ × ℕ)) → lookup key t ≡ r → F (stopFrom ws key (target key t) r) ≡ G r
+          go none q = parted (at (top (target key t))) (nodeOf ws (top (target key t))) _
+          go (some e) q = f e q
+
+  -- where a descent by sides stops
   abbrev pub landedIn : (ℕ → Bool) → Map → Stop
   landedIn side none = stop.Empty
   landedIn side (some t) = stop.Leaf (at (landed side t .1 .0)) (nodeOf ws (landed side t .1 .0))
@@ -166,23 +182,24 @@ module _ {m n : ℕ} {ws : List ℕ} (a : Accepted m n ws) where
   alive : (key : Key) (e : ℕ × ℕ) → lookupIn key (a .tree) ≡ some e → Live (valueRecordOf n ws (e .1))
   alive key e q = find-all (λ v. Live (valueRecordOf n ws v)) key (listOf (a .tree)) (e .1) (a .live) (sym (value-found key) ∙ ap valueOf q)
 
+  -- the node of a key's leaf names its value record
+  pub target-value : (key : Key) (e : ℕ × ℕ) → lookupIn key (a .tree) ≡ some e → nodeOf ws (e .0) .value .0 ≡ e .1
+  target-value key e q = in-map (a .tree) (a .holds) q
+    where
+      in-map : (t : Map) → HoldsMap (headerOf n ws) ws t → lookupIn key t ≡ some e → nodeOf ws (e .0) .value .0 ≡ e .1
+      in-map none k q = let z : _≡_ {A = ℕ} 0 1 = cc in absurd (omega arith)
+      in-map (some t) k q = found-value (headerOf n ws) ws key 0 0 t (held-of t k) e q
+
   -- a live value record holds its value
   live-held : (i j : ℕ) → Live (valueRecordOf n ws j) → liveOf n ws i j ≡ live.Holds (valueAtRecord n ws j)
   unfolding liveOf
   live-held i j l = rw (live-passes n ws i j l)
 
   pub target-agrees : (key : Key) → targetOf m n ws key ≡ targetFrom (lookupIn key (a .tree))
-  unfolding targetOf openedTarget stopTarget liveTarget stopFrom
-  target-agrees key = rw (accepted-opens a, find-tree key (a .tree) (a .holds) (a .ordered)) (in-map (a .tree) (a .holds) (alive key))
-    where
-      in-map : (t : Map) → HoldsMap (headerOf n ws) ws t → ((e : ℕ × ℕ) → lookupIn key t ≡ some e → Live (valueRecordOf n ws (e .1)))
-          → stopTarget n ws (stopIn key t) ≡ targetFrom (lookupIn key t)
-      in-map none k l = refl
-      in-map (some t) k l = go (lookup key t) refl
-        where
-          go : (r : Option (ℕ × ℕ)) → lookup key t ≡ r → stopTarget n ws (stopFrom ws key (target key t) r) ≡ targetFrom r
-          go none q = refl
-          go (some e) q = rw (found-value (headerOf n ws) ws key 0 0 t (held-of t k) e q, live-held (e .0) (e .1) (l e q))
+  unfolding targetOf openedTarget stopTarget liveTarget
+  target-agrees key =
+      rw (accepted-opens a)
+      (at-stop key (stopTarget n ws) targetFrom refl (λ i x s. refl) (λ e q. rw (target-value key e q, live-held (e .0) (e .1) (alive key e q))))
 
   pub get-agrees : (key : Key) → getOf m n ws key ≡ gotFrom (find key (listed a))
   unfolding getOf targetGot
@@ -198,30 +215,14 @@ module _ {m n : ℕ} {ws : List ℕ} (a : Accepted m n ws) where
   -- ---- contains and get_addr
 
   pub contains-agrees : (key : Key) → containsOf m n ws key ≡ doneFrom (held key (listed a))
-  unfolding containsOf openedDone stopDone stopFrom
+  unfolding containsOf openedDone stopDone
   contains-agrees key =
-      rw (accepted-opens a, find-tree key (a .tree) (a .holds) (a .ordered)) (in-map (a .tree)) ∙ ap (λ (b : Bool). doneFrom b) (sym (held-listed key))
-    where
-      in-map : (t : Map) → stopDone (stopIn key t) ≡ doneFrom (is-some (valueOf (lookupIn key t)))
-      in-map none = refl
-      in-map (some t) = go (lookup key t)
-        where
-          go : (r : Option (ℕ × ℕ)) → stopDone (stopFrom ws key (target key t) r) ≡ doneFrom (is-some (valueOf r))
-          go none = refl
-          go (some e) = refl
+      rw (accepted-opens a) (at-stop key stopDone (λ r. doneFrom (is-some (valueOf r))) refl (λ i x s. refl) (λ e q. refl)) ∙ ap doneFrom (sym (held-listed key))
 
   -- the node index of a held key is its leaf's
   pub addr-agrees : (key : Key) → addrOf m n ws key ≡ placeFrom (lookupIn key (a .tree))
-  unfolding addrOf openedPlace stopPlace stopFrom
-  addr-agrees key = rw (accepted-opens a, find-tree key (a .tree) (a .holds) (a .ordered)) (in-map (a .tree))
-    where
-      in-map : (t : Map) → stopPlace (stopIn key t) ≡ placeFrom (lookupIn key t)
-      in-map none = refl
-      in-map (some t) = go (lookup key t)
-        where
-          go : (r : Option (ℕ × ℕ)) → stopPlace (stopFrom ws key (target key t) r) ≡ placeFrom r
-          go none = refl
-          go (some e) = refl
+  unfolding addrOf openedPlace stopPlace
+  addr-agrees key = rw (accepted-opens a) (at-stop key stopPlace placeFrom refl (λ i x s. refl) (λ e q. refl))
 
   -- ---- smallest and largest
 

@@ -3,25 +3,23 @@ use mathlib.Core.Path.{_≡_, refl, sym, ap, _∙_}
 use mathlib.Core.List.{List, [], _∷_}
 use mathlib.Core.Bool.{true, false}
 use mathlib.Core.Option.{Option, none, some}
-use Prim.Native.Nat.{ℕ, _+_, _≤_, _<_}
+use Prim.Native.Nat.{ℕ, _≤_, _<_}
 use Rattle.keys.specs.declared.Key.{Key}
 use Rattle.records.specs.declared.Value.{Value}
-use Rattle.records.specs.declared.Done.{Done}
-use Rattle.records.specs.Records.{headerOf}
-use Rattle.records.specs.Writes.{setValue}
+use Rattle.records.specs.Records.{headerOf, valueRecordOf}
+use Rattle.records.specs.Writes.{liveRecord, setValue}
 use Rattle.lookup.specs.declared.Target.{Target}
 use Rattle.lookup.specs.Get.{targetOf, targetDone, writeOf, targetImage, writeImage}
-use Rattle.lists.specs.Lists.{All, all-append}
+use Rattle.lists.specs.Lists.{All}
 use Rattle.lists.specs.Entries.{find, held, is-some, find-all, Other, unheld, update}
 use Rattle.lists.specs.Answers.{doneFrom}
 use Rattle.lists.specs.Machine.{FitsValue}
-use Rattle.trees.specs.Tree.{Tree, leaf, inner, entries, Ordered}
 use Rattle.trees.specs.Lookup.{valueOf}
 use Rattle.trees.specs.Map.{Map, listOf, lookupIn}
-use Rattle.accepted.specs.Rules.{Holds}
+use Rattle.accepted.specs.Rules.{Live}
 use Rattle.accepted.specs.Held.{list-used}
-use Rattle.accepted.specs.Accepted.{Accepted, HoldsMap}
-use Rattle.accepted_lookup.specs.Answers.{valued, listed, targetFrom, value-found, held-listed, target-agrees}
+use Rattle.accepted.specs.Accepted.{Accepted}
+use Rattle.accepted_lookup.specs.Answers.{valued, listed, value-found, held-listed, target-value, target-agrees}
 use Rattle.accepted_write.specs.Write.{value-accepted, value-tree, value-listed}
 
 -- ---- the list's value write where the key is not held
@@ -46,5 +44,6 @@ module _ {m n : ℕ} {ws : List ℕ} (a : Accepted m n ws) (key : Key) (v : Valu
           let hit : find key (listOf (a .tree)) ≡ some (e .1) = sym (value-found a key) ∙ ap valueOf q in
           let inside = find-all (λ j. (1 ≤ j) × (j < headerOf n ws .values .bump)) key (listOf (a .tree)) (e .1) (list-used (headerOf n ws) ws (a .tree) (a .holds)) hit in
           let here : held key (listed a) ≡ true = held-listed a key ∙ ap (λ (r : Option (ℕ × ℕ)). is-some (valueOf r)) q in
-          rw (target-agrees a key, q)
-          (rw here refl, (value-accepted a (e .1) (inside .0) (inside .1) v fits, ap (λ (t : Map). valued n (setValue m n ws (e .1) v) (listOf t)) (value-tree a (e .1) (inside .0) (inside .1) v fits) ∙ value-listed a (e .1) (inside .0) (inside .1) v fits key (listOf (a .tree)) (a .different) hit))
+          let alive = find-all (λ j. Live (valueRecordOf n ws j)) key (listOf (a .tree)) (e .1) (a .live) hit in
+          rw (target-agrees a key, q, target-value a key e q)
+          (rw here refl, (value-accepted a (e .0) (e .1) (inside .0) (inside .1) alive v fits, ap (λ (t : Map). valued n (setValue m n ws (e .1) (liveRecord (e .0) v)) (listOf t)) (value-tree a (e .0) (e .1) (inside .0) (inside .1) alive v fits) ∙ value-listed a (e .0) (e .1) (inside .0) (inside .1) alive v fits key (listOf (a .tree)) (a .different) hit))

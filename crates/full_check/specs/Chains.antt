@@ -1,5 +1,5 @@
--- The free chains and the records that were never used: document 01, "each chain from head ends at bump after bump-1-size free records", and "At or above bump, up to N: twelve zero
--- words", for values up to M eight. One definition for both arenas, and behind it the turns of the loops that follow a chain.
+-- The free chains and the records that were never used: rules T11 to T13 and T15. One definition for both arenas, and behind it the turns of the loops that
+-- follow a chain.
 use mathlib.Core.Path.{_≡_, refl}
 use mathlib.Core.List.{List}
 use mathlib.Core.Bool.{Bool, true, false, _&&_}
@@ -24,7 +24,7 @@ freeCount c = c .bump - 1 - c .size
 
 -- whether a record passes the test of a free one, and what it names as the next
 abbrev pub nodeFree : Header → List ℕ → ℕ → Bool
-nodeFree h ws i = freeNode h i (nodeOf ws i)
+nodeFree h ws i = freeNode h ws i (nodeOf ws i)
 
 abbrev pub nodeNext : List ℕ → ℕ → ℕ
 nodeNext ws i = nodeOf ws i .left .0

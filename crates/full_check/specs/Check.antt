@@ -1,5 +1,4 @@
--- The full check's answer, and the scratch afterwards: document 01, "The full check accepts exactly if the header and all records pass" and "after any outcome but refusal 1 its first M
--- words are zero, the rest kept".
+-- The full check's answer, and the scratch afterwards: rules T15 and T17.
 use mathlib.Core.List.{List, _++_}
 use mathlib.Core.Bool.{Bool, true, false, cond, _&&_}
 use Prim.Native.Nat.{ℕ}
@@ -11,7 +10,7 @@ use Rattle.inspection.specs.declared.Opened.the-variants.{Good, Shut}
 use Rattle.records.specs.declared.Refusal.the-variants as no
 use Rattle.records.specs.declared.Done.{Done}
 use Rattle.records.specs.declared.Done.the-variants as done
-use Rattle.inspection.specs.Tests.{shapeOk}
+use Rattle.inspection.specs.Tests.{shapeOk, rootOk}
 use Rattle.inspection.specs.Opening.{openOf}
 use Rattle.records.specs.Numbers.{zeroKey}
 use Rattle.full_check.specs.Walk.{Walk, walkOf}
@@ -25,10 +24,10 @@ unmarked m = replicate m 0
 unfoldable pub rootWalk : ℕ → Header → List ℕ → List ℕ → Walk
 rootWalk n h ws marks = walkOf 129 n h ws (h .nodes .size) marks (h .root .0) 0 0 zeroKey false
 
--- the tree reaches as many nodes as node size says; an empty map has none
+-- the root keeps its rule, and the tree reaches as many nodes as node size says; an empty map has none
 unfoldable pub treeOk : ℕ → Header → List ℕ → List ℕ → Bool
 treeOk n h ws marks =
-    cond (eqb (h .values .size) 0) true (rootWalk n h ws marks .passed && eqb (rootWalk n h ws marks .rest) 0)
+    cond (eqb (h .values .size) 0) true (rootOk h ws && (rootWalk n h ws marks .passed && eqb (rootWalk n h ws marks .rest) 0))
 
 -- all records of an image whose header passed
 unfoldable pub recordsOk : ℕ → ℕ → Header → List ℕ → Bool

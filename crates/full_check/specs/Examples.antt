@@ -8,9 +8,9 @@ use Rattle.words.specs.Wide.{wideAt}
 use Rattle.words.specs.Zeros.{zerosAt}
 use Rattle.keys.specs.Number.{numberOf}
 use Rattle.keys.specs.Common.{commonOf, common, bitOf}
-use Rattle.records.specs.Records.{headerOf, nodeOf, recordFrom}
-use Rattle.inspection.specs.Tests.{arenaOk, countsOk, headerOk, formOk, nodeOk, freeNode, freeValue}
-use Rattle.inspection.specs.Opening.{openOf}
+use Rattle.records.specs.Records.{headerOf, frontOf, spareOf, nodeOf, paddingOf, recordFrom}
+use Rattle.inspection.specs.Tests.{arenaOk, countsOk, headerOk, topOk, paddingOk, formOk, nodeOk, rootOk, liveValue, freeNode, freeValue}
+use Rattle.inspection.specs.Opening.{openShaped, openOf}
 use Rattle.records.specs.Numbers.{doneNumber, refusalNumber}
 use Rattle.full_check.specs.Walk.{sideOk, visitOk, leafWalk, joined, walkOf}
 use Rattle.full_check.specs.Chains.{chainOf, nodeChain, valueChain, nodesUnused, valuesUnused}
@@ -78,8 +78,8 @@ pub accepted :
     (numberFor started ≡ 0)
     × (numberFor held ≡ 0)
     × (numberFor removed ≡ 0)
-unfolding checkOf checkShape openOf openedCheck doneNumber refusalNumber headerOf wideAt headerOk countsOk arenaOk
-    recordsOk treeOk rootWalk walkOf visitOk nodeOf nodeOk formOk sideOk numberOf common commonOf bitOf joined leafWalk recordFrom
+unfolding checkOf checkShape openOf openShaped openedCheck doneNumber refusalNumber headerOf frontOf spareOf wideAt topOk headerOk countsOk arenaOk rootOk
+    recordsOk treeOk rootWalk walkOf visitOk nodeOf paddingOf paddingOk nodeOk formOk sideOk numberOf common commonOf bitOf joined leafWalk liveValue recordFrom
     nodeChain valueChain chainOf freeNode freeValue nodesUnused valuesUnused zerosAt
 accepted = (refl, refl, refl)
 
@@ -107,7 +107,7 @@ pub damaged :
     × (numberFor (set removed 20 6) ≡ 2)
     × (numberFor (set removed 32 2) ≡ 2)
     × (numberFor unreached ≡ 2)
-unfolding checkOf checkShape openOf openedCheck doneNumber refusalNumber headerOf wideAt headerOk countsOk arenaOk
-    recordsOk treeOk rootWalk walkOf visitOk nodeOf nodeOk formOk sideOk numberOf common commonOf bitOf joined leafWalk recordFrom
+unfolding checkOf checkShape openOf openShaped openedCheck doneNumber refusalNumber headerOf frontOf spareOf wideAt topOk headerOk countsOk arenaOk rootOk
+    recordsOk treeOk rootWalk walkOf visitOk nodeOf paddingOf paddingOk nodeOk formOk sideOk numberOf common commonOf bitOf joined leafWalk liveValue recordFrom
     nodeChain valueChain chainOf freeNode freeValue nodesUnused valuesUnused zerosAt
 damaged = (refl, refl, refl, refl, refl, refl, refl, refl, refl)

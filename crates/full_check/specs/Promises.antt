@@ -1,4 +1,4 @@
--- What document 01 promises of the full check's outcome: its numbers, each "when, and only then", and that no second outcome fits. (The image is only read: the contract lends it for reading.)
+-- What is promised of the full check's outcome: its numbers, each "when, and only then", and that no second outcome fits. (The image is only read: the contract lends it for reading.)
 use mathlib.Core.Path.{_≡_, refl, sym, _∙_}
 use mathlib.Core.List.{List, _++_}
 use mathlib.Core.Bool.{Bool, true, false, true≢false}
@@ -13,8 +13,8 @@ use Rattle.words.specs.Words.{words, Bytes}
 use Rattle.records.specs.declared.Refusal.the-variants as no
 use Rattle.records.specs.declared.Done.the-variants as done
 use Rattle.records.specs.Records.{headerOf}
-use Rattle.inspection.specs.Tests.{shapeOk, headerOk}
-use Rattle.inspection.specs.Opening.{openOf}
+use Rattle.inspection.specs.Tests.{shapeOk, topOk}
+use Rattle.inspection.specs.Opening.{openShaped, openOf}
 use Rattle.records.specs.Numbers.{refusalNumber, doneNumber}
 use Rattle.full_check.specs.Check.{unmarked, recordsOk, openedCheck, checkShape, checkOf, checkScratch}
 use Rattle.full_check.specs.Scratch.{ScratchLeft, left-cleared, one-scratch}
@@ -26,10 +26,10 @@ pub record Numbers (m n : ℕ) (ws scratch : List ℕ) (number : ℕ) : Type 0 w
   pub shape : (number ≡ 1) ↔ ((shapeOk m n (length ws) ≡ false) ⊎ (length scratch < m))
   -- a test of the header or of a record fails
   pub damaged : (number ≡ 2)
-      ↔ ((shapeOk m n (length ws) ≡ true) × (m ≤ length scratch) × ((headerOk m n (headerOf n ws) ≡ false) ⊎ (recordsOk m n (headerOf n ws) ws ≡ false)))
+      ↔ ((shapeOk m n (length ws) ≡ true) × (m ≤ length scratch) × ((topOk m n ws ≡ false) ⊎ (recordsOk m n (headerOf n ws) ws ≡ false)))
   -- the header and all records pass
   pub accepted : (number ≡ 0)
-      ↔ ((shapeOk m n (length ws) ≡ true) × (m ≤ length scratch) × (headerOk m n (headerOf n ws) ≡ true) × (recordsOk m n (headerOf n ws) ws ≡ true))
+      ↔ ((shapeOk m n (length ws) ≡ true) × (m ≤ length scratch) × (topOk m n ws ≡ true) × (recordsOk m n (headerOf n ws) ws ≡ true))
   pub no-other : number ≤ 2
 
 module _ (m n : ℕ) (ws scratch : List ℕ) where
@@ -37,26 +37,26 @@ module _ (m n : ℕ) (ws scratch : List ℕ) where
   data Goes : Type 0 where
     misshapen : (shapeOk m n (length ws) ≡ false) ⊎ (length scratch < m) → doneNumber (checkOf m n ws scratch) ≡ 1 → Goes
     unsound : shapeOk m n (length ws) ≡ true → m ≤ length scratch
-        → (headerOk m n (headerOf n ws) ≡ false) ⊎ (recordsOk m n (headerOf n ws) ws ≡ false) → doneNumber (checkOf m n ws scratch) ≡ 2 → Goes
-    sound : shapeOk m n (length ws) ≡ true → m ≤ length scratch → headerOk m n (headerOf n ws) ≡ true → recordsOk m n (headerOf n ws) ws ≡ true
+        → (topOk m n ws ≡ false) ⊎ (recordsOk m n (headerOf n ws) ws ≡ false) → doneNumber (checkOf m n ws scratch) ≡ 2 → Goes
+    sound : shapeOk m n (length ws) ≡ true → m ≤ length scratch → topOk m n ws ≡ true → recordsOk m n (headerOf n ws) ws ≡ true
         → doneNumber (checkOf m n ws scratch) ≡ 0 → Goes
 
   goes : Goes
-  unfolding checkOf checkShape openOf openedCheck doneNumber refusalNumber
+  unfolding checkOf checkShape openOf openShaped openedCheck doneNumber refusalNumber
   goes = by-shape (shapeOk m n (length ws)) (decLe m (length scratch)) refl
     where
-      by-records : shapeOk m n (length ws) ≡ true → m ≤ length scratch → headerOk m n (headerOf n ws) ≡ true
+      by-records : shapeOk m n (length ws) ≡ true → m ≤ length scratch → topOk m n ws ≡ true
           → (r : Bool) → recordsOk m n (headerOf n ws) ws ≡ r → Goes
       by-records s l h true e = sound s l h e (simp (s, le-leb m (length scratch) l, h, e))
       by-records s l h false e = unsound s l (inr e) (simp (s, le-leb m (length scratch) l, h, e))
 
-      by-header : shapeOk m n (length ws) ≡ true → m ≤ length scratch → (h : Bool) → headerOk m n (headerOf n ws) ≡ h → Goes
+      by-header : shapeOk m n (length ws) ≡ true → m ≤ length scratch → (h : Bool) → topOk m n ws ≡ h → Goes
       by-header s l true e = by-records s l e (recordsOk m n (headerOf n ws) ws) refl
       by-header s l false e = unsound s l (inl e) (simp (s, le-leb m (length scratch) l, e))
 
       by-shape : (s : Bool) → Dec (m ≤ length scratch) → shapeOk m n (length ws) ≡ s → Goes
       by-shape false d e = misshapen (inl e) (simp e)
-      by-shape true (yes l) e = by-header e l (headerOk m n (headerOf n ws)) refl
+      by-shape true (yes l) e = by-header e l (topOk m n ws) refl
       by-shape true (no k) e = misshapen (inr (lt-of-not-le k)) (simp (e, lt-leb m (length scratch) (lt-of-not-le k)))
 
   apart : (b : Bool) → b ≡ true → b ≡ false → ⊥
@@ -69,13 +69,13 @@ module _ (m n : ℕ) (ws scratch : List ℕ) where
       Shapeless = (shapeOk m n (length ws) ≡ false) ⊎ (length scratch < m)
 
       Fails : Type 0
-      Fails = (headerOk m n (headerOf n ws) ≡ false) ⊎ (recordsOk m n (headerOf n ws) ws ≡ false)
+      Fails = (topOk m n ws ≡ false) ⊎ (recordsOk m n (headerOf n ws) ws ≡ false)
 
       shaped : Shapeless → shapeOk m n (length ws) ≡ true → m ≤ length scratch → ⊥
       shaped (inl f) t l = apart _ t f
       shaped (inr k) t l = omega arith
 
-      passing : Fails → headerOk m n (headerOf n ws) ≡ true → recordsOk m n (headerOf n ws) ws ≡ true → ⊥
+      passing : Fails → topOk m n ws ≡ true → recordsOk m n (headerOf n ws) ws ≡ true → ⊥
       passing (inl f) h r = apart _ h f
       passing (inr f) h r = apart _ r f
 

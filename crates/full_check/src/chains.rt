@@ -22,7 +22,7 @@ ghost use Rattle.inspection.specs.Room.{Room};
 ghost use Rattle.full_check.specs.Chains.{freeCount, nodeChain, valueChain};
 
 // The difference, and 0 where b is the larger.
-fn less(a: u64, b: u64) -> u64
+fn minus(a: u64, b: u64) -> u64
     ensures { λ r. ⌜ r ≡ a - b ⌝ }
 {
     if a < b { 0 } else { a - b }
@@ -32,7 +32,7 @@ fn less(a: u64, b: u64) -> u64
 fn free_count(c: Counts) -> u64
     ensures { λ r. ⌜ r ≡ freeCount c ⌝ }
 {
-    less(less(c.bump as u64, 1), c.size)
+    minus(minus(c.bump as u64, 1), c.size)
 }
 
 // The chain of free nodes ends at the bump after as many as are free.
@@ -42,19 +42,19 @@ pub fn node_chain(img: &[u8], h: Header) -> bool
 {
     let nodes = h.nodes;
     let mut left = free_count(nodes);
-    let mut i = nodes.head;
+    let mut i = NodeIndex(nodes.head);
     while 0 < left {
-        if !is_used(h, NodeIndex(i)) {
+        if !is_used(h, i) {
             return false;
         }
-        let x = node_in(img, NodeIndex(i));
-        if !free_node(h, NodeIndex(i), x) {
+        let x = node_in(img, i);
+        if !free_node(img, h, i, x) {
             return false;
         }
-        i = x.left.0;
+        i = x.left;
         left -= 1;
     }
-    i == nodes.bump
+    i.0 == nodes.bump
 }
 
 // The same of the free value records.
@@ -63,25 +63,25 @@ pub fn value_chain(img: &[u8], n: u32, h: Header) -> bool
 {
     let values = h.values;
     let mut left = free_count(values);
-    let mut j = values.head;
+    let mut j = ValueIndex(values.head);
     while 0 < left {
-        if !((1 <= j) & (j < values.bump)) {
+        if !((1 <= j.0) & (j.0 < values.bump)) {
             return false;
         }
-        let x = value_record(img, n, ValueIndex(j));
-        if !free_value(h, ValueIndex(j), x) {
+        let x = value_record(img, n, j);
+        if !free_value(h, j, x) {
             return false;
         }
-        j = x.register0;
+        j = ValueIndex(x.register0);
         left -= 1;
     }
-    j == values.bump
+    j.0 == values.bump
 }
 
 // Every record of an arena from the bump on is zeros.
 pub fn unused(img: &[u8], a: Arena, bump: u32) -> bool
     ensures { λ r. ⌜ r ≡ zerosAt (words (now (img .entry))) (recordAt a bump) (widthOf a * (capacityOf a + 1 - bump)) ⌝ }
 {
-    let many = less((capacity(a) as u64) + 1, bump as u64);
+    let many = minus((capacity(a) as u64) + 1, bump as u64);
     words::zeros(img, record_at(a, bump), width(a) * (many as usize))
 }

@@ -10,7 +10,7 @@ use chains::unused;
 use chains::value_chain;
 use inspection::Opened;
 use inspection::open::is_image;
-use inspection::open::open_image;
+use inspection::open::open_shaped;
 use node_allocator::Arena;
 use records::Done;
 use records::Header;
@@ -22,6 +22,8 @@ ghost use Rattle.words.specs.Words.{words};
 ghost use Rattle.records.specs.Layout.{imageOf};
 ghost use Rattle.records.specs.Numbers.{doneNumber};
 ghost use Rattle.inspection.specs.Opening.{openOf};
+ghost use mathlib.Core.Bool.{true};
+ghost use Rattle.inspection.specs.Tests.{shapeOk};
 ghost use Rattle.inspection.specs.Room.{Room};
 ghost use Rattle.full_check.specs.Check.{unmarked, recordsOk, openedCheck, checkOf, checkScratch};
 ghost use Rattle.full_check.specs.Scratch.{ScratchLeft};
@@ -47,10 +49,10 @@ fn records_ok(img: &[u8], marks: &mut [u8], m: u32, n: u32, h: Header) -> bool
 
 // The header, then the records, with no value record marked yet.
 fn opened_check(img: &[u8], marks: &mut [u8], m: u32, n: u32) -> Done
-    requires { ⌜ words (now marks) ≡ unmarked m ⌝ }
+    requires { ⌜ (words (now marks) ≡ unmarked m) × (shapeOk m n (length (imageOf (now img))) ≡ true) ⌝ }
     ensures { λ r. ⌜ r ≡ openedCheck m n (imageOf (now (img .entry))) (openOf m n (imageOf (now (img .entry)))) ⌝ }
 {
-    match open_image(img, m, n) {
+    match open_shaped(img, m, n) {
         Opened::Good(h) => {
             if records_ok(img, marks, m, n, h) {
                 return Done::Yes;
@@ -63,7 +65,7 @@ fn opened_check(img: &[u8], marks: &mut [u8], m: u32, n: u32) -> Done
 
 // The same with a scratch of just M words, which is cleared before and after.
 fn cleared_check(img: &[u8], marks: &mut [u8], m: u32, n: u32) -> Done
-    requires { ⌜ length (words (now marks)) ≡ m ⌝ }
+    requires { ⌜ (length (words (now marks)) ≡ m) × (shapeOk m n (length (imageOf (now img))) ≡ true) ⌝ }
     ensures answer { λ r. ⌜ r ≡ openedCheck m n (imageOf (now (img .entry))) (openOf m n (imageOf (now (img .entry)))) ⌝ }
     ensures scratch { λ _. ⌜ words (now (marks .exit)) ≡ unmarked m ⌝ }
 {

@@ -35,6 +35,18 @@ firstOf h ws i = cond (formOk h ws i) (kindOf (nodeOf ws i)) Damaged
 unfoldable pub liveOf : ℕ → List ℕ → ℕ → ℕ → Live
 liveOf n ws leaf j = cond (liveValue n ws leaf j) (Holds (valueRecordOf n ws j .value)) Not
 
+unfoldable pub passes : Live → Bool
+passes (Holds v) = true
+passes Not = false
+
+pub live-tested : (n : ℕ) (ws : List ℕ) (leaf j : ℕ) → passes (liveOf n ws leaf j) ≡ liveValue n ws leaf j
+unfolding liveOf passes
+live-tested n ws leaf j = go (liveValue n ws leaf j)
+  where
+    go : (b : Bool) → passes (cond b (Holds (valueRecordOf n ws j .value)) Not) ≡ b
+    go true = refl
+    go false = refl
+
 -- ---- by kind
 
 -- what both kinds are tested for, whether the padding is clean

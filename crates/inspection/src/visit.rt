@@ -17,7 +17,7 @@ ghost use lib.ListN.{length};
 ghost use Rattle.words.specs.Words.{words};
 ghost use Rattle.inspection.specs.Room.{Room};
 ghost use Rattle.inspection.specs.Tests.{nodeOk, rootOk, kidsOk};
-ghost use Rattle.inspection.specs.Visit.{joined, byKind, visitOf, firstOf, liveOf};
+ghost use Rattle.inspection.specs.Visit.{joined, byKind, visitOf, firstOf, liveOf, passes};
 
 // A node of a used index by its kind. `above` is the node that we came from (0 at the root), `low` the least prefix length that the node may have.
 fn by_kind(h: Header, clean: bool, above: NodeIndex, low: u64, x: Node) -> Visited
@@ -113,4 +113,14 @@ pub fn live_value(img: &[u8], n: u32, leaf: NodeIndex, j: ValueIndex) -> Live
         return Live::Holds(v);
     }
     Live::Not
+}
+
+// Whether a leaf's value record passed.
+pub fn is_live(live: Live) -> bool
+    ensures { λ r. ⌜ r ≡ passes live ⌝ }
+{
+    match live {
+        Live::Holds(_) => true,
+        Live::Not => false,
+    }
 }

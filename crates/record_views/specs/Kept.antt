@@ -65,7 +65,7 @@ beside a i k r (inl l) s e = omega arith
 beside a i k r (inr l) s e = omega arith
 
 -- the registers are data
-pub registers-data : (a : Arena) → 4 ≤ dataOf a
+registers-data : (a : Arena) → 4 ≤ dataOf a
 unfolding dataOf
 registers-data (Nodes n) = omega arith
 registers-data (Values n m) = omega arith
@@ -117,15 +117,15 @@ module _ (ws : List ℕ) (k : ℕ) where
       let three : j ≢ k + 3 = around 3 o (omega arith) in
       simp (getD-set-other, zero, one, two, three)
 
-  pub node-words : (x : Node) → length (nodeSet ws k x) ≡ length ws
+  node-words : (x : Node) → length (nodeSet ws k x) ≡ length ws
   unfolding nodeSet keySet registersSet
   node-words x = simp (set-wide-length, length-set)
 
-  pub value-words : (r : ValueRecord) → length (valueSet ws k r) ≡ length ws
+  value-words : (r : ValueRecord) → length (valueSet ws k r) ≡ length ws
   unfolding valueSet registersSet
   value-words r = simp (set-wide-length, length-set)
 
-  pub node-others : (x : Node) (j : ℕ) → Around k 10 j → getD (nodeSet ws k x) j 0 ≡ getD ws j 0
+  node-others : (x : Node) (j : ℕ) → Around k 10 j → getD (nodeSet ws k x) j 0 ≡ getD ws j 0
   unfolding nodeSet keySet
   node-others x j o =
       let four : j ≢ k + 4 = around 4 o (omega arith) in
@@ -136,7 +136,7 @@ module _ (ws : List ℕ) (k : ℕ) where
       let nine : j ≢ k + 8 + 1 = λ e. around 9 o (omega arith) (omega arith) in
       simp (set-wide-others, four, five, six, seven, eight, nine) (registers-others _ _ _ _ j 10 (omega arith) o)
 
-  pub value-others : (r : ValueRecord) (j : ℕ) → Around k 8 j → getD (valueSet ws k r) j 0 ≡ getD ws j 0
+  value-others : (r : ValueRecord) (j : ℕ) → Around k 8 j → getD (valueSet ws k r) j 0 ≡ getD ws j 0
   unfolding valueSet
   value-others r j o =
       let four : j ≢ k + 4 = around 4 o (omega arith) in
@@ -149,7 +149,7 @@ module _ (ws : List ℕ) (k : ℕ) where
 
 module _ {P : ℕ → Type 0} {us ws : List ℕ} where
   -- a store that rewrites words of P's complement alone
-  pub store-kept : (vs : List ℕ) → length vs ≡ length ws → ((k : ℕ) → P k → getD vs k 0 ≡ getD ws k 0) → Keeps P us ws → Keeps P us vs
+  store-kept : (vs : List ℕ) → length vs ≡ length ws → ((k : ℕ) → P k → getD vs k 0 ≡ getD ws k 0) → Keeps P us ws → Keeps P us vs
   store-kept vs long same t = record { word = λ k p. same k p ∙ t .word k p; as-many = long ∙ t .as-many }
 
   -- nothing is stored where i names no record
@@ -160,7 +160,7 @@ module _ {P : ℕ → Type 0} {us ws : List ℕ} where
       go true e = f (is-inside a i e)
       go false e = t
 
-  pub either-kept : (b : Bool) (vs : List ℕ) → Keeps P us vs → Keeps P us ws → Keeps P us (cond b vs ws)
+  either-kept : (b : Bool) (vs : List ℕ) → Keeps P us vs → Keeps P us ws → Keeps P us (cond b vs ws)
   either-kept b vs s t = either-way (Keeps P us) b vs ws s t
 
   pub register-kept : (a : Arena) (i v : ℕ) (f : Register) → Spares P a i → Keeps P us ws → Keeps P us (setRegister a ws i v f)
@@ -184,7 +184,7 @@ module _ {P : ℕ → Type 0} {us ws : List ℕ} where
       named-kept (Values n m) j (valueSet ws (valueAt n j) r)
       (λ h. store-kept _ (value-words ws (valueAt n j) r) (λ k p. value-others ws (valueAt n j) r k (s .off k p h)) t) t
 
-  pub counts-kept : (a : Arena) (c : Counts) → Clears P a → Keeps P us ws → Keeps P us (setCounts a ws c)
+  counts-kept : (a : Arena) (c : Counts) → Clears P a → Keeps P us ws → Keeps P us (setCounts a ws c)
   counts-kept a c o = store-kept _ (counts-length a ws c) (λ k p. counts-others a ws c k (o .outside k p))
 
 module _ {P : ℕ → Type 0} {us ws : List ℕ} where

@@ -18,9 +18,10 @@ use Rattle.node_allocator.specs.declared.Register.the-variants.{Left}
 use Rattle.node_allocator.specs.Layout.{headerAt, recordAt, registerOf, inside}
 use Rattle.node_allocator.specs.Steps.{countsOf, setCounts, initialized, getRegister, setRegister, taken, addImage, freed, removeImage}
 use Rattle.records.specs.declared.Node.{Node}
+use Rattle.records.specs.declared.Value.{Value}
 use Rattle.records.specs.declared.ValueRecord.{ValueRecord}
 use Rattle.records.specs.Records.{nodeOf}
-use Rattle.records.specs.Writes.{registersSet, keySet, nodeSet, setNode, valueSet, setValue}
+use Rattle.records.specs.Writes.{registersSet, keySet, nodeSet, setNode, valueSet, liveRecord, setValue}
 use Rattle.lists.specs.Machine.{FitsValue}
 
 abbrev pub Small : List ℕ → Type 0
@@ -42,6 +43,10 @@ pub record FitsRecord (r : ValueRecord) : Type 0 where
   pub fits2 : r .register2 < 2 ^ 32
   pub fits3 : r .register3 < 2 ^ 32
   pub value-fits : FitsValue (r .value)
+
+pub live-fits : {v : Value} (leaf : ℕ) → FitsValue v → FitsRecord (liveRecord leaf v)
+unfolding liveRecord
+live-fits leaf f = record { fits0 = omega arith; fits1 = omega arith; fits2 = omega arith; fits3 = omega arith; value-fits = f }
 
 pub record FitsCounts (c : Counts) : Type 0 where
   pub bump-fits : c .bump < 2 ^ 32

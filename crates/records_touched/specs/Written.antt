@@ -13,7 +13,7 @@ use Rattle.lookup.specs.Get.{targetOf, targetImage, writeImage}
 use Rattle.records_touched.specs.Stores.{Touched, touches, untouched, stores}
 
 module _ (m n : ℕ) (ws : List ℕ) where
-  done-touched : (d : Done) → Touched m n ws (doneImage ws (started n ws) d)
+  done-touched : (d : Done) → Touched m n ws (doneImage ws (started m n ws) d)
   unfolding doneImage started
   done-touched done.Yes = touches [] [] (omega arith) (omega arith) (search stores)
   done-touched (done.Refused r) = untouched
@@ -24,7 +24,7 @@ module _ (m n : ℕ) (ws : List ℕ) where
 
   target-touched : (v : Value) (t : Target) → Touched m n ws (targetImage m n ws v t)
   unfolding targetImage
-  target-touched v (At i j old) = touches [] (j .0 ∷ []) (omega arith) (omega arith) (search stores)
+  target-touched v (At i x old) = touches [] (x .value .0 ∷ []) (omega arith) (omega arith) (search stores)
   target-touched v (No r) = untouched
 
   pub write-touched : (key : Key) (v : Value) → Touched m n ws (writeImage m n ws key v)

@@ -1,5 +1,5 @@
--- Document 01's bench example of remove, computed: M = 4, N = 8, 140 words; A is 2^127, B is 0 and C is 1. "Remove A: node size 3, free nodes 2, 3, value head 1." Removing it
--- again answers 4 and changes nothing.
+-- The bench example of remove, computed (rule B9): M = 4, N = 8, 140 words; A is 2^127, B is 0 and C is 1. Removing A
+-- leaves node size 3, free nodes 2, 3 and value head 1. Removing it again answers 4 and changes nothing.
 use mathlib.Core.Path.{_≡_, refl}
 use mathlib.Core.List.{List, [], _∷_, _++_}
 use Prim.Native.Nat.{ℕ, _^_}
@@ -9,17 +9,17 @@ use Rattle.keys.specs.declared.Key.{Key}
 use Rattle.keys.specs.Number.{numberOf}
 use Rattle.keys.specs.Common.{bitOf}
 use Rattle.node_allocator.specs.Layout.{headerAt, recordAt, capacityOf}
-use Rattle.node_allocator.specs.Steps.{countsOf, getRegister, setRegister, connected, disconnected, removeImage}
+use Rattle.node_allocator.specs.Steps.{setCounts, setRegister, freed, removeCounts, removeImage}
 use Rattle.records.specs.declared.Got.the-variants as got
-use Rattle.records.specs.Records.{headerOf, nodeOf, recordFrom}
-use Rattle.inspection.specs.Tests.{arenaOk, countsOk, headerOk, formOk, nodeOk, kidsOk}
-use Rattle.inspection.specs.Opening.{openOf}
+use Rattle.records.specs.Records.{headerOf, frontOf, spareOf, nodeOf, paddingOf, recordFrom}
 use Rattle.records.specs.Numbers.{refusalNumber, gotNumber}
-use Rattle.records.specs.Writes.{setContent}
-use Rattle.descent.specs.Descent.{childOf, reachTurn, stepOf, descend, fromRoot}
-use Rattle.remove_steps.specs.Steps.{siblingOf, unhung, leafRemoved, contentMoved, valueMoved, kidsMoved, placeFreed, migrated, cutImage}
-use Rattle.remove.specs.Plan.{siblingOk, leafPlan, stopPlan}
-use Rattle.remove.specs.Steps.{planImage, valueGone, openedPlan, removeOf, removedImage}
+use Rattle.records.specs.Writes.{registersSet, keySet, nodeSet, setNode}
+use Rattle.inspection.specs.Tests.{arenaOk, countsOk, headerOk, topOk, paddingOk, formOk, nodeOk, rootOk, kidsOk, liveValue}
+use Rattle.inspection.specs.Visit.{liveOf}
+use Rattle.inspection.specs.Opening.{openShaped, openOf}
+use Rattle.descent.specs.Descent.{childOf, bitsTurn, turnAt, descend, fromRoot}
+use Rattle.remove.specs.Plan.{siblingOf, siblingOk, cutPlan, leafPlan, stopPlan}
+use Rattle.remove.specs.Steps.{leafFreed, moved, placeFreed, cutImage, planImage, valueGone, openedPlan, removeOf, removedImage}
 
 abbrev A : Key
 A = record { high = 2 ^ 63; low = 0 }
@@ -78,5 +78,5 @@ pub worked-remove :
     × (headerOf 8 two .values ≡ record { size = 2; bump = 4; head = 1 })
     × (gotNumber (removeOf 4 8 two A) ≡ 4)
     × (removedImage 4 8 two A ≡ two)
-unfolding removedImage planImage cutImage migrated placeFreed kidsMoved valueMoved contentMoved leafRemoved unhung connected disconnected removeImage setRegister getRegister setContent countsOf headerAt recordAt capacityOf setWide wideAt removeOf valueGone openedPlan openOf stopPlan leafPlan siblingOk siblingOf fromRoot descend stepOf reachTurn childOf headerOf nodeOf recordFrom arenaOk countsOk headerOk formOk nodeOk kidsOk numberOf bitOf gotNumber refusalNumber
+unfolding removedImage planImage cutImage placeFreed moved leafFreed removeImage removeCounts freed setCounts setRegister setNode nodeSet keySet registersSet headerAt recordAt capacityOf setWide wideAt removeOf valueGone openedPlan openOf openShaped stopPlan leafPlan cutPlan siblingOk siblingOf fromRoot descend turnAt bitsTurn childOf headerOf frontOf spareOf nodeOf paddingOf recordFrom arenaOk countsOk headerOk topOk paddingOk formOk nodeOk rootOk kidsOk liveValue liveOf numberOf bitOf gotNumber refusalNumber
 worked-remove = (refl, refl, refl, refl, refl, refl, refl, refl)

@@ -1,85 +1,100 @@
-// What remove tests, all of it on the image as it was before the call. Nothing here writes.
+// What remove tests, all of it on the image as it was before the call. Nothing here writes, and no record is read twice.
 use crate::Plan;
 use descent::Stop;
 use descent::reach;
+use inspection::Live;
 use inspection::Opened;
+use inspection::Visited;
 use inspection::open::open_image;
 use inspection::tests::is_used;
-use inspection::tests::kids_ok;
-use inspection::tests::live_value;
-use inspection::tests::node_ok;
+use inspection::visit::kids_ok;
+use inspection::visit::live_value;
+use inspection::visit::visit;
 use keys::Key;
+use keys::bit;
+use keys::same;
 use records::Header;
+use records::Node;
 use records::NodeIndex;
 use records::Refusal;
-use records::ValueIndex;
+use records::Value;
 use records::read::node_in;
-use records::read::value_record;
-use remove_steps::read::get_parent;
-use remove_steps::read::get_prefix;
-use remove_steps::read::sibling;
 ghost use mathlib.Core.Path.{_≡_};
 ghost use lib.ListN.{length};
 ghost use Rattle.words.specs.Words.{words};
 ghost use Rattle.records.specs.Layout.{imageOf};
-ghost use Rattle.records.specs.Records.{valueRecordOf};
-ghost use Rattle.inspection.specs.Tests.{liveValue};
 ghost use Rattle.inspection.specs.Room.{Room};
+ghost use Rattle.inspection.specs.Visit.{liveOf};
 ghost use Rattle.inspection.specs.Opening.{openOf};
-ghost use Rattle.remove.specs.Plan.{siblingOk, leafPlan, planOf};
+ghost use Rattle.remove.specs.Plan.{siblingOf, cutPlan, leafPlan, removePlan};
 ghost use Rattle.remove.specs.Steps.{openedPlan};
 
-// The sibling of a leaf below node `p`, and the sibling's children.
-fn sibling_ok(img: &[u8], h: Header, key: Key, p: NodeIndex) -> bool
-    requires { ⌜ Room h (length (words (now img))) ⌝ }
-    ensures { λ r. ⌜ r ≡ siblingOk h (words (now (img .entry))) key (p .0) ⌝ }
+// The child of a node that the key does not turn to.
+fn sibling(key: Key, x: Node) -> NodeIndex
+    ensures { λ r. ⌜ r ≡ siblingOf key x ⌝ }
 {
-    let above = get_prefix(img, p);
-    if above < 128 {
-        let s = sibling(img, key, p);
-        if is_used(h, s) {
-            let x = node_in(img, s);
-            return node_ok(h, s, p, above + 1, x) & kids_ok(img, h, s, x);
+    if bit(key, x.prefix) {
+        return x.left;
+    }
+    x.right
+}
+
+// Leaf `i`, whose record is `x` and whose value is `v`, below a node: its sibling is tested, and the sibling's children.
+fn cut_plan(img: &[u8], h: Header, key: Key, i: NodeIndex, x: Node, v: Value) -> Plan
+    requires { ⌜ Room h (length (words (now img))) ⌝ }
+    ensures { λ r. ⌜ r ≡ cutPlan h (words (now (img .entry))) key i x v ⌝ }
+{
+    let p = x.parent;
+    if is_used(h, p) {
+        let y = node_in(img, p);
+        if y.prefix < 128 {
+            let s = sibling(key, y);
+            match visit(img, h, s, p, y.prefix + 1) {
+                Visited::Leaf(z) => return Plan::Cut(h, i, x, y, s, z, v),
+                Visited::Inner(z) => {
+                    if kids_ok(img, h, s, z) {
+                        return Plan::Cut(h, i, x, y, s, z, v);
+                    }
+                }
+                Visited::Damaged => {}
+            }
         }
-    }
-    false
-}
-
-// The value record that is freed.
-fn value_ok(img: &[u8], n: u32, j: ValueIndex) -> bool
-    ensures { λ r. ⌜ r ≡ liveValue (valueRecordOf n (words (now (img .entry))) (j .0)) ⌝ }
-{
-    live_value(value_record(img, n, j))
-}
-
-// What becomes of leaf `i`: it is the root, or its sibling is tested.
-fn leaf_plan(img: &[u8], h: Header, key: Key, i: NodeIndex) -> Plan
-    requires { ⌜ Room h (length (words (now img))) ⌝ }
-    ensures { λ r. ⌜ r ≡ leafPlan h (words (now (img .entry))) key i ⌝ }
-{
-    let p = get_parent(img, i);
-    if p.0 == 0 {
-        return Plan::Lone(i);
-    }
-    if sibling_ok(img, h, key, p) {
-        return Plan::Cut(i);
     }
     Plan::Refused(Refusal::Damaged)
 }
 
-// Where the key leads, and the value record that it names there.
+// The key's leaf `i`, whose record is `x`: its value record is tested; then it is the root, or hangs below a node.
+fn leaf_plan(img: &[u8], n: u32, h: Header, key: Key, i: NodeIndex, x: Node) -> Plan
+    requires { ⌜ Room h (length (words (now img))) ⌝ }
+    ensures { λ r. ⌜ r ≡ leafPlan h (words (now (img .entry))) key i x (liveOf n (words (now (img .entry))) (i .0) (x .value .0)) ⌝ }
+{
+    let j = x.value;
+    match live_value(img, n, i, j) {
+        Live::Holds(v) => {
+            if x.parent.0 == 0 {
+                return Plan::Lone(h, i, x, v);
+            }
+            cut_plan(img, h, key, i, x, v)
+        }
+        Live::Not => Plan::Refused(Refusal::Damaged),
+    }
+}
+
+// Where the key's bits lead, and whether the leaf there is the key's.
 fn key_plan(img: &[u8], n: u32, h: Header, key: Key) -> Plan
     requires { ⌜ Room h (length (words (now img))) ⌝ }
-    ensures { λ r. ⌜ r ≡ planOf n h (words (now (img .entry))) key ⌝ }
+    ensures { λ r. ⌜ r ≡ removePlan n h (words (now (img .entry))) key ⌝ }
 {
     match reach(img, h, key) {
-        Stop::Leaf(i, j) => {
-            if value_ok(img, n, j) {
-                return leaf_plan(img, h, key, i);
+        Stop::Leaf(i, x) => {
+            let own = x.key;
+            if same(key, own) {
+                return leaf_plan(img, n, h, key, i, x);
             }
-            Plan::Refused(Refusal::Damaged)
+            Plan::Refused(Refusal::Absent)
         }
-        Stop::Parted(_) => Plan::Refused(Refusal::Absent),
+        Stop::Parted(_, _, _) => Plan::Refused(Refusal::Absent),
+        Stop::Empty => Plan::Refused(Refusal::Absent),
         Stop::Damaged => Plan::Refused(Refusal::Damaged),
     }
 }

@@ -30,7 +30,7 @@ slice-aggregate-cleared-check : tie.Need-slice-aggregate-cleared-check
 slice-aggregate-cleared-check c = sym (first-long (c .before .before .before .before .before .before .before .before .args .m) (c .before .before .before .before .before .before .before .before .args .scratch .now) (omega (arith, c .before .before .count .ensures, c .before .if2 .taken)))
 
 cleared-check-requires : tie.Need-cleared-check-requires
-cleared-check-requires c κs = first-many (c .before .before .before .before .before .before .before .before .args .m) (c .before .before .before .before .before .before .before .before .args .scratch .now) (omega (arith, c .before .before .count .ensures, c .before .if2 .taken))
+cleared-check-requires c κs = (first-many (c .before .before .before .before .before .before .before .before .args .m) (c .before .before .before .before .before .before .before .before .args .scratch .now) (omega (arith, c .before .before .count .ensures, c .before .if2 .taken)), sym (c .before .before .before .before .before .is-image .ensures) ∙ c .before .before .before .before .if1 .taken)
 
 same-length : tie.Need-same-length
 same-length c = search needs

@@ -1,8 +1,7 @@
 -- `remove::remove` meets its contract: a plan that writes was made on an image that opens, and a refused one passes through no store. Assumes nothing.
-use mathlib.Core.Path.{refl, sym, ap, _∙_}
-use Rattle.records.specs.declared.Got.the-variants as got
-use Rattle.remove.specs.Steps.{planImage, valueGone, removeOf}
-use Rattle.remove.specs.Planned.{planned-answer, planned-image, refused-image}
+use mathlib.Core.Path.{refl, sym, _∙_}
+use Rattle.remove.specs.Steps.{planImage, valueGone}
+use Rattle.remove.specs.Planned.{planned-answer, planned-room, planned-image, refused-image}
 use borrow.Author.Needs.{needs}
 use Rattle.remove.proofs.remove.Statement.{statement}
 use Rattle.remove.proofs.remove.Tie as tie
@@ -10,17 +9,17 @@ use Rattle.remove.proofs.remove.Tie as tie
 image-plan-requires : tie.Need-image-plan-requires
 image-plan-requires c κs = search needs
 
-enum-known-i : tie.Need-enum-known-i
-enum-known-i c = search needs
-
-remove-lone-requires : tie.Need-remove-lone-requires
-remove-lone-requires c κs = search needs
-
-enum-known-i-2 : tie.Need-enum-known-i-2
-enum-known-i-2 c = search needs
+enum-known-h : tie.Need-enum-known-h
+enum-known-h c = search needs
 
 remove-cut-requires : tie.Need-remove-cut-requires
-remove-cut-requires c κs = search needs
+remove-cut-requires c κs = planned-room (c .before .before .before .before .before .before .before .args .m) (c .before .before .before .before .before .before .before .args .n) (c .before .before .before .before .before .before .before .args .img .now) (c .before .before .before .before .before .before .before .args .key) _ (sym (c .before .before .before .before .image-plan .ensures) ∙ c .before .before .h .given .1) refl
+
+enum-known-h-2 : tie.Need-enum-known-h-2
+enum-known-h-2 c = search needs
+
+remove-lone-requires : tie.Need-remove-lone-requires
+remove-lone-requires c κs = planned-room (c .before .before .before .before .before .before .before .args .m) (c .before .before .before .before .before .before .before .args .n) (c .before .before .before .before .before .before .before .args .img .now) (c .before .before .before .before .before .before .before .args .key) _ (sym (c .before .before .before .before .image-plan .ensures) ∙ c .before .before .h2 .given .1) refl
 
 enum-known-r : tie.Need-enum-known-r
 enum-known-r c = search needs
@@ -30,37 +29,31 @@ same-length c = search needs
 
 returns : tie.Need-returns
 unfolding planImage valueGone
-returns c =
-    let made = sym (c .before .before .before .before .before .before .before .image-plan .ensures) ∙ c .before .before .before .before .before .i .given .1 in
-    (ap got.Found (c .before .before .remove-lone .ensures .0) ∙ planned-answer (c .before .before .before .before .before .before .before .before .before .before .args .m) (c .before .before .before .before .before .before .before .before .before .before .args .n) (c .before .before .before .before .before .before .before .before .before .before .args .img .now) (c .before .before .before .before .before .before .before .before .before .before .args .key) _ made refl, planned-image (c .before .before .before .before .before .before .before .before .before .before .args .m) (c .before .before .before .before .before .before .before .before .before .before .args .n) (c .before .before .before .before .before .before .before .before .before .before .args .img .now) (c .before .before .before .before .before .before .before .before .before .before .args .key) _ made refl _ (search needs) (c .before .before .remove-lone .ensures .1))
+returns c = let made = sym (c .before .before .before .before .before .before .before .image-plan .ensures) ∙ c .before .before .before .before .before .h .given .1 in (planned-answer (c .before .before .before .before .before .before .before .before .before .before .args .m) (c .before .before .before .before .before .before .before .before .before .before .args .n) (c .before .before .before .before .before .before .before .before .before .before .args .img .now) (c .before .before .before .before .before .before .before .before .before .before .args .key) _ made, planned-image (c .before .before .before .before .before .before .before .before .before .before .args .m) (c .before .before .before .before .before .before .before .before .before .before .args .n) (c .before .before .before .before .before .before .before .before .before .before .args .img .now) (c .before .before .before .before .before .before .before .before .before .before .args .key) _ made refl _ (search needs) (c .before .before .remove-cut .ensures))
 
 same-length-2 : tie.Need-same-length-2
 same-length-2 c = search needs
 
 returns-2 : tie.Need-returns-2
 unfolding planImage valueGone
-returns-2 c =
-    let made = sym (c .before .before .before .before .before .before .before .image-plan .ensures) ∙ c .before .before .before .before .before .i2 .given .1 in
-    (ap got.Found (c .before .before .remove-cut .ensures .0) ∙ planned-answer (c .before .before .before .before .before .before .before .before .before .before .args .m) (c .before .before .before .before .before .before .before .before .before .before .args .n) (c .before .before .before .before .before .before .before .before .before .before .args .img .now) (c .before .before .before .before .before .before .before .before .before .before .args .key) _ made refl, planned-image (c .before .before .before .before .before .before .before .before .before .before .args .m) (c .before .before .before .before .before .before .before .before .before .before .args .n) (c .before .before .before .before .before .before .before .before .before .before .args .img .now) (c .before .before .before .before .before .before .before .before .before .before .args .key) _ made refl _ (search needs) (c .before .before .remove-cut .ensures .1))
+returns-2 c = let made = sym (c .before .before .before .before .before .before .before .image-plan .ensures) ∙ c .before .before .before .before .before .h2 .given .1 in (planned-answer (c .before .before .before .before .before .before .before .before .before .before .args .m) (c .before .before .before .before .before .before .before .before .before .before .args .n) (c .before .before .before .before .before .before .before .before .before .before .args .img .now) (c .before .before .before .before .before .before .before .before .before .before .args .key) _ made, planned-image (c .before .before .before .before .before .before .before .before .before .before .args .m) (c .before .before .before .before .before .before .before .before .before .before .args .n) (c .before .before .before .before .before .before .before .before .before .before .args .img .now) (c .before .before .before .before .before .before .before .before .before .before .args .key) _ made refl _ (search needs) (c .before .before .remove-lone .ensures))
 
 same-length-3 : tie.Need-same-length-3
 same-length-3 c = search needs
 
 returns-3 : tie.Need-returns-3
-unfolding valueGone removeOf
-returns-3 c =
-    let made = sym (c .before .before .before .image-plan .ensures) ∙ c .before .r .given .1 in
-    (simp made, refused-image (c .before .before .before .before .before .before .args .m) (c .before .before .before .before .before .before .args .n) (c .before .before .before .before .before .before .args .img .now) (c .before .before .before .before .before .before .args .key) _ made)
+unfolding valueGone
+returns-3 c = let made = sym (c .before .before .before .image-plan .ensures) ∙ c .before .r .given .1 in (planned-answer (c .before .before .before .before .before .before .args .m) (c .before .before .before .before .before .before .args .n) (c .before .before .before .before .before .before .args .img .now) (c .before .before .before .before .before .before .args .key) _ made, refused-image (c .before .before .before .before .before .before .args .m) (c .before .before .before .before .before .before .args .n) (c .before .before .before .before .before .before .args .img .now) (c .before .before .before .before .before .before .args .key) _ made)
 
 pub remove-spec : {M : Type 1} → statement M
 remove-spec =
     tie.close
     (tie.spec
     image-plan-requires
-    enum-known-i
-    remove-lone-requires
-    enum-known-i-2
+    enum-known-h
     remove-cut-requires
+    enum-known-h-2
+    remove-lone-requires
     enum-known-r
     same-length
     returns

@@ -10,14 +10,14 @@ use Rattle.full_check.proofs.chains.unused.Tie as tie
 capacity-requires : tie.Need-capacity-requires
 capacity-requires c κs = search needs
 
-cast-less : tie.Need-cast-less
-cast-less c = search needs
+cast-minus : tie.Need-cast-minus
+cast-minus c = search needs
 
-add-less : tie.Need-add-less
-add-less c = search needs
+add-minus : tie.Need-add-minus
+add-minus c = search needs
 
-less-requires : tie.Need-less-requires
-less-requires c κs = search needs
+minus-requires : tie.Need-minus-requires
+minus-requires c κs = search needs
 
 record-at-requires : tie.Need-record-at-requires
 record-at-requires c κs = search needs
@@ -28,7 +28,7 @@ width-requires c κs = search needs
 mul-zeros : tie.Need-mul-zeros
 mul-zeros c =
     let small : c .width .result ≤ 12 = omega (arith, width-most (c .before .before .before .before .before .args .a)) in
-    omega (arith, mul-le-mul-right (c .before .before .less .result) small)
+    omega (arith, mul-le-mul-right (c .before .before .minus .result) small)
 
 zeros-requires : tie.Need-zeros-requires
 zeros-requires c κs = search needs
@@ -41,9 +41,9 @@ unused-spec =
     tie.close
     (tie.spec
     capacity-requires
-    cast-less
-    add-less
-    less-requires
+    cast-minus
+    add-minus
+    minus-requires
     record-at-requires
     width-requires
     mul-zeros

@@ -1,4 +1,6 @@
 -- `full_check::walk::leaf_walk` meets its contract. Assumes nothing.
+use Rattle.words.specs.Words.{words}
+use Rattle.inspection.specs.Visit.{live-tested}
 use Rattle.full_check.specs.Walk.{leafWalk}
 use borrow.Author.Needs.{needs}
 use Rattle.full_check.proofs.walk.leaf_walk.Statement.{statement}
@@ -10,11 +12,11 @@ sub-at c = search needs
 cast-at : tie.Need-cast-at
 cast-at c = search needs
 
-value-record-requires : tie.Need-value-record-requires
-value-record-requires c κs = search needs
-
 live-value-requires : tie.Need-live-value-requires
 live-value-requires c κs = search needs
+
+is-live-requires : tie.Need-is-live-requires
+is-live-requires c κs = search needs
 
 word-requires : tie.Need-word-requires
 word-requires c κs = search needs
@@ -27,14 +29,17 @@ same-length c = search needs
 
 returns : tie.Need-returns
 unfolding leafWalk
-returns c = simp (← c .before .before .before .before .before .before .before .before .value-record .ensures, ← c .before .before .before .before .before .before .before .live-value .ensures, ← c .before .before .before .before .before .word .ensures, c .before .before .before .before .if1 .taken, c .before .before .set-word .ensures)
+returns c = simp (← live-tested (c .before .before .before .before .before .before .before .before .before .before .before .before .before .args .n) (words (c .before .before .before .before .before .before .before .before .before .before .before .before .before .args .img .now)) (c .before .before .before .before .before .before .before .before .before .before .before .before .before .args .i .0) (c .before .before .before .before .before .before .before .before .before .before .before .before .before .args .x .value .0), ← c .before .before .before .before .before .before .before .before .live-value .ensures, ← c .before .before .before .before .before .before .before .is-live .ensures, ← c .before .before .before .before .before .word .ensures, c .before .before .before .before .if1 .taken, c .before .before .set-word .ensures)
+
+lost-requires : tie.Need-lost-requires
+lost-requires c κs = search needs
 
 same-length-2 : tie.Need-same-length-2
 same-length-2 c = search needs
 
 returns-2 : tie.Need-returns-2
 unfolding leafWalk
-returns-2 c = simp (← c .before .before .before .before .value-record .ensures, ← c .before .before .before .live-value .ensures, ← c .before .word .ensures, c .if1 .left)
+returns-2 c = simp (← live-tested (c .before .before .before .before .before .before .before .before .before .before .args .n) (words (c .before .before .before .before .before .before .before .before .before .before .args .img .now)) (c .before .before .before .before .before .before .before .before .before .before .args .i .0) (c .before .before .before .before .before .before .before .before .before .before .args .x .value .0), ← c .before .before .before .before .before .live-value .ensures, ← c .before .before .before .before .is-live .ensures, ← c .before .before .word .ensures, c .before .if1 .left, c .lost .ensures)
 
 pub leaf-walk-spec : {M : Type 1} → statement M
 leaf-walk-spec =
@@ -42,11 +47,12 @@ leaf-walk-spec =
     (tie.spec
     sub-at
     cast-at
-    value-record-requires
     live-value-requires
+    is-live-requires
     word-requires
     set-word-requires
     same-length
     returns
+    lost-requires
     same-length-2
     returns-2)

@@ -5,24 +5,38 @@ use borrow.Author.Needs.{needs}
 use Rattle.remove.proofs.tests.leaf_plan.Statement.{statement}
 use Rattle.remove.proofs.tests.leaf_plan.Tie as tie
 
-get-parent-requires : tie.Need-get-parent-requires
-get-parent-requires c κs = search needs
+live-value-requires : tie.Need-live-value-requires
+live-value-requires c κs = search needs
+
+enum-known-v : tie.Need-enum-known-v
+enum-known-v c = search needs
 
 returns : tie.Need-returns
 unfolding leafPlan
-returns c = simp (← c .before .before .get-parent .ensures, eq-eqb _ _ (c .if1 .taken))
+returns c = simp (← c .before .before .before .before .before .live-value .ensures, c .before .before .before .v .given .1, eq-eqb _ _ (c .if1 .taken))
 
-sibling-ok-requires : tie.Need-sibling-ok-requires
-sibling-ok-requires c κs = search needs
+cut-plan-requires : tie.Need-cut-plan-requires
+cut-plan-requires c κs = search needs
+
+enum-told : tie.Need-enum-told
+enum-told c = search needs
 
 returns-2 : tie.Need-returns-2
 unfolding leafPlan
-returns-2 c = simp (← c .before .before .before .before .get-parent .ensures, ne-eqb _ _ (c .before .before .if1 .left), ← c .before .sibling-ok .ensures, c .if2 .taken)
+returns-2 c = simp (← c .before .before .before .before .before .before .live-value .ensures, c .before .before .before .before .v .given .1, ne-eqb _ _ (c .before .if1 .left), c .cut-plan .ensures)
 
 returns-3 : tie.Need-returns-3
 unfolding leafPlan
-returns-3 c = simp (← c .before .before .before .before .get-parent .ensures, ne-eqb _ _ (c .before .before .if1 .left), ← c .before .sibling-ok .ensures, c .if2 .left)
+returns-3 c = simp (← c .before .before .live-value .ensures, c .enum-told .given .1)
 
 pub leaf-plan-spec : {M : Type 1} → statement M
 leaf-plan-spec =
-    tie.close (tie.spec get-parent-requires returns sibling-ok-requires returns-2 returns-3)
+    tie.close
+    (tie.spec
+    live-value-requires
+    enum-known-v
+    returns
+    cut-plan-requires
+    enum-told
+    returns-2
+    returns-3)
