@@ -4,3 +4,7 @@ pub mod Entered
 pub mod Taken
 pub mod Planned
 pub mod Holding
+pub mod Leaf
+pub mod Grown
+pub mod First
+pub mod Splitting
