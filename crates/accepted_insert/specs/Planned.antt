@@ -1,5 +1,6 @@
--- Insert's plan on an accepted image: refused exactly where the map is full, else the first leaf, the key's own leaf, or the split of the node where the key parts from the tree.
-use mathlib.Core.Path.{_≡_, sym, ap, _∙_}
+-- Insert's plan on an accepted image: refused exactly where the map is full, else the first leaf, the key's own leaf, or
+-- the split of the node where the key parts from the tree.
+use mathlib.Core.Path.{_≡_, sym, _∙_}
 use mathlib.Core.List.{List}
 use mathlib.Core.Bool.{Bool, true, false, cond}
 use mathlib.Core.Option.{none, some}
@@ -11,7 +12,6 @@ use borrow.Author.Tests.{eq-eqb, ne-eqb}
 use Rattle.keys.specs.declared.Key.{Key}
 use Rattle.records.specs.declared.Header.{Header}
 use Rattle.records.specs.declared.Value.{Value}
-use Rattle.records.specs.declared.ValueIndex.{ValueIndex}
 use Rattle.records.specs.declared.Refusal.the-variants as no
 use Rattle.records.specs.Records.{headerOf, nodeOf, valueRecordOf}
 use Rattle.inspection.specs.Opening.{openOf}
@@ -33,13 +33,18 @@ use Rattle.accepted_lookup.specs.Answers.{listed, find-tree}
 use Rattle.accepted_insert.specs.Taken.{leaf-passes, split-passes}
 
 -- the subtree where the descent ends is held
-pub target-held : (h : Header) (ws : List ℕ) (key : Key) (parent low : ℕ) (t : Tree) → Holds h ws parent low t → (above : ℕ) × (least : ℕ) × Holds h ws above least (target key t)
+pub target-held : (h : Header) (ws : List ℕ) (key : Key) (parent low : ℕ) (t : Tree) → Holds h ws parent low t
+    → (above : ℕ) × (least : ℕ) × Holds h ws above least (target key t)
 unfolding Holds
 target-held h ws key parent low (leaf i a v) k = (parent, low, k)
-target-held h ws key parent low (inner i a p l r) k = go (leb p (shared key a)) (bit key p) (target-held h ws key i (p + 1) l (k .on-left)) (target-held h ws key i (p + 1) r (k .on-right))
+target-held h ws key parent low (inner i a p l r) k =
+    go (leb p (shared key a)) (bit key p) (target-held h ws key i (p + 1) l (k .on-left))
+    (target-held h ws key i (p + 1) r (k .on-right))
   where
-    go : (s b : Bool) → (above : ℕ) × (least : ℕ) × Holds h ws above least (target key l) → (above : ℕ) × (least : ℕ) × Holds h ws above least (target key r)
-        → (above : ℕ) × (least : ℕ) × Holds h ws above least (cond s (cond b (target key r) (target key l)) (inner i a p l r))
+    go : (s b : Bool) → (above : ℕ) × (least : ℕ) × Holds h ws above least (target key l)
+        → (above : ℕ) × (least : ℕ) × Holds h ws above least (target key r)
+        → (above : ℕ) × (least : ℕ) × Holds h ws above least
+        (cond s (cond b (target key r) (target key l)) (inner i a p l r))
     go true true x y = y
     go true false x y = x
     go false b x y = (parent, low, k)
@@ -50,7 +55,9 @@ module _ {m n : ℕ} {ws : List ℕ} (a : Accepted m n ws) where
 
   -- the size is the list's length
   pub sized : h .values .size ≡ length (listed a)
-  sized = lookup-answers.sized a (a .tree) (a .holds) ∙ sym (length-map {B = Key × Value} (listOf (a .tree)) (λ e. (e .0, valueAtRecord n ws (e .1))))
+  sized =
+      lookup-answers.sized a (a .tree) (a .holds) ∙ sym
+      (length-map {B = Key × Value} (listOf (a .tree)) (λ e. (e .0, valueAtRecord n ws (e .1))))
 
   -- a map that is not full has room for two nodes
   pub node-room : h .values .size < m → h .nodes .size + 2 ≤ n
@@ -66,7 +73,8 @@ module _ {m n : ℕ} {ws : List ℕ} (a : Accepted m n ws) where
     plan-full e = planned ∙ rw (eq-eqb (h .values .size) m e)
 
     module _ (room : h .values .size < m) where
-      descended : (t : Map) → HoldsMap h ws t → OrderedMap t → openedPlan m n ws key (openOf m n ws) ≡ stopPlan m n h ws (lookup-answers.stopIn a key t)
+      descended : (t : Map) → HoldsMap h ws t → OrderedMap t
+          → openedPlan m n ws key (openOf m n ws) ≡ stopPlan m n h ws (lookup-answers.stopIn a key t)
       unfolding insertPlan
       descended t k o = planned ∙ rw (ne-eqb (h .values .size) m (λ e. omega arith), find-tree a key t k o)
 
@@ -88,8 +96,14 @@ module _ {m n : ℕ} {ws : List ℕ} (a : Accepted m n ws) where
             descended (some t) k o ∙ rw (q, same, live-passes n ws (e .0) (e .1) live)
 
         pub plan-split : lookup key t ≡ none
-            → openedPlan m n ws key (openOf m n ws) ≡ Split h (at (top (target key t))) (nodeOf ws (top (target key t))) (shared key (keyOf (target key t)))
+            → openedPlan m n ws key (openOf m n ws) ≡ Split h (at (top (target key t))) (nodeOf ws (top (target key t)))
+            (shared key (keyOf (target key t)))
         unfolding stopPlan stopFrom
         plan-split q =
             let x = target-held h ws key 0 0 t held in
-            descended (some t) k o ∙ rw (q, kids-pass h ws (accepted-clean a) (x .0) (x .1) (target key t) (x .2), split-passes a (node-room room) room)
+            descended (some t) k o ∙ rw (
+              q,
+              kids-pass h ws (accepted-clean a) (x .0) (x .1) (target key t) (x .2),
+              split-passes a (node-room room)
+                  room,
+            )

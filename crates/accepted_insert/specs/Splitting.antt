@@ -1,13 +1,12 @@
--- A key that the map does not hold goes into a tree: the node where it parts from the tree is split, and the image afterwards holds the tree after the insert.
+-- A key that the map does not hold goes into a tree: the node where it parts from the tree is split, and the image
+-- afterwards holds the tree after the insert.
 use mathlib.Core.Path.{_≡_, refl, sym, ap, subst, _∙_}
 use mathlib.Core.List.{List}
-use mathlib.Core.Logic.{_≢_, _⊎_, inl, inr}
-use mathlib.Core.Bool.{Bool, true, false, cond}
+use mathlib.Core.Logic.{_≢_, inl, inr}
 use mathlib.Core.Option.{Option, none, some, Option·getD}
-use Prim.Native.Nat.{ℕ, _+_, _*_, _-_, _^_, _≤_, _<_}
+use Prim.Native.Nat.{ℕ, _+_, _^_, _≤_, _<_}
 use native.Mathlib.Omega.{arith}
 use native.Mathlib.Nat.{pos-of-ne-zero}
-use lib.Dec.{eqb}
 use borrow.Author.Tests.{eq-eqb, ne-eqb}
 use Rattle.words.specs.Tests.{either-way}
 use Rattle.keys.specs.declared.Key.{Key}
@@ -21,14 +20,14 @@ use Rattle.records.specs.declared.Header.{Header}
 use Rattle.records.specs.declared.Node.{Node}
 use Rattle.records.specs.declared.Value.{Value}
 use Rattle.records.specs.declared.ValueRecord.{ValueRecord}
-use Rattle.records.specs.Records.{headerOf, nodeOf, leafNode, innerNode, withParent, valueRecordOf}
+use Rattle.records.specs.Records.{headerOf, nodeOf, leafNode, withParent, valueRecordOf}
 use Rattle.records.specs.Writes.{liveRecord}
 use Rattle.insert.specs.Steps.{leafTaken, copyIndex, bothTaken, adopted, forkNode, forked, splitImage}
 use Rattle.lists.specs.Lists.{All, all-both}
 use Rattle.lists.specs.Entries.{find, is-some, enter}
 use Rattle.lists.specs.Machine.{FitsValue}
 use Rattle.trees.specs.Keys.{shared, bit, at-most}
-use Rattle.trees.specs.Tree.{Tree, leaf, inner, top, keyOf, entries, entries-some, Ordered}
+use Rattle.trees.specs.Tree.{Tree, leaf, top, keyOf, entries, Ordered}
 use Rattle.trees.specs.Nodes.{In, Child, in-top, in-child}
 use Rattle.trees.specs.Lookup.{lookup, valueOf, lookup-find}
 use Rattle.trees.specs.Insert.{insert, put, ordered-insert, entries-insert, lookup-insert}
@@ -41,9 +40,7 @@ use Rattle.record_views.specs.Small.{FitsNode, node-fits}
 use Rattle.record_views.specs.Stored.{Stored, store-register, store-node, add-node, withNodes, withValues}
 use Rattle.accepted.specs.Rules.{Holds, FreeNode, Live}
 use Rattle.accepted.specs.Accepted.{Accepted, HoldsMap}
-use Rattle.accepted.specs.Held.{top-used, once}
 use Rattle.accepted.specs.Frame.{chain-range}
-use Rattle.accepted.specs.Forks.{sidedNode}
 use Rattle.accepted_lookup.specs.Answers.{valued, listed, held-valued, size-some}
 use Rattle.accepted_insert.specs.Arenas.{behind, all-behind, bump-most, size-taken, head-used, not-head, behind-other, heads-differ, counts-taken, nextNodeOf, nextValueOf, node-part, value-part, node-link}
 use Rattle.accepted_insert.specs.Planned.{target-held, node-room}
@@ -51,71 +48,10 @@ use Rattle.accepted_insert.specs.Entered.{enter-new, valued-put, nodes-i
 use Rattle.accepted_insert.specs.Holding.{Busy, in-busy, SplitAt, holds-insert}
 use Rattle.accepted_insert.specs.Leaf.{part-fits, nodes1, nodes2, values1, node-part1, node-part2, value-part1, nodes-answered, leaf-stored, cell-other, cell-after, record-after, free-after, live-after}
 use Rattle.accepted_insert.specs.Grown.{topped, assembled, assembled-tree}
-use Rattle.accepted_insert.specs.First.{leaf-fits}
+use Rattle.accepted_insert.specs.Kids.{Kids, kids-of, told, fork-sided, leaf-fits}
 
--- ---- the node that is split and its children, by its record
-
-pub record Kids (h : Header) (ws : List ℕ) (x : Tree) : Type 0 where
-  pub left-used : nodeOf ws (top x) .left .0 < h .nodes .bump
-  pub right-used : nodeOf ws (top x) .right .0 < h .nodes .bump
-  pub names : (y : ℕ) → Child y x → (y ≡ nodeOf ws (top x) .left .0) ⊎ (y ≡ nodeOf ws (top x) .right .0)
-  pub named : (y : ℕ) → 1 ≤ y → (y ≡ nodeOf ws (top x) .left .0) ⊎ (y ≡ nodeOf ws (top x) .right .0) → Child y x
-  pub below : (y : ℕ) → Child y x → y ≢ top x
-
-kids-of : (h : Header) (ws : List ℕ) (parent low : ℕ) (x : Tree) → Holds h ws parent low x → Kids h ws x
-unfolding Holds
-kids-of h ws parent low (leaf i a w) k =
-    let left : nodeOf ws i .left .0 ≡ 0 = ap (λ (z : Node). z .left .0) (k .here) in
-    let right : nodeOf ws i .right .0 ≡ 0 = ap (λ (z : Node). z .right .0) (k .here) in
-    record {
-      left-used = omega (arith, k .index-used);
-      right-used = omega (arith, k .index-used);
-      names = λ y q. absurd q;
-      named = λ y l q. absurd (none y l left right q);
-      below = λ y q. absurd q;
-    }
-  where
-    none : (y : ℕ) → 1 ≤ y → nodeOf ws i .left .0 ≡ 0 → nodeOf ws i .right .0 ≡ 0 → (y ≡ nodeOf ws i .left .0) ⊎ (y ≡ nodeOf ws i .right .0) → ⊥
-    none y l left right (inl e) = omega arith
-    none y l left right (inr e) = omega arith
-kids-of h ws parent low (inner i a p l r) k =
-    let left : nodeOf ws i .left .0 ≡ top l = ap (λ (z : Node). z .left .0) (k .here) in
-    let right : nodeOf ws i .right .0 ≡ top r = ap (λ (z : Node). z .right .0) (k .here) in
-    record {
-      left-used = omega (arith, left, top-used h ws i (p + 1) l (k .on-left) .1);
-      right-used = omega (arith, right, top-used h ws i (p + 1) r (k .on-right) .1);
-      names = λ y q. rw (left, right) q;
-      named = λ y s q. rw (left, right) at q;
-      below = under;
-    }
-  where
-    under : (y : ℕ) → (y ≡ top l) ⊎ (y ≡ top r) → y ≢ i
-    under y (inl e) q = once h ws parent low (inner i a p l r) k .0 (subst (λ z. In z l) (sym e ∙ q) (in-top l))
-    under y (inr e) q = once h ws parent low (inner i a p l r) k .1 (subst (λ z. In z r) (sym e ∙ q) (in-top r))
-
--- a child is told of the copy, by whichever of the two names it is known
-told : (copy y l r : ℕ) (z : Node) → (y ≡ l) ⊎ (y ≡ r) → changed r (withRegister Parent copy) y (changed l (withRegister Parent copy) y z) ≡ withParent copy z
-told copy y l r z (inl e) = rw (eq-eqb y l e) (go (eqb y r))
-  where
-    go : (b : Bool) → cond b (withParent copy z) (withParent copy z) ≡ withParent copy z
-    go true = refl
-    go false = refl
-told copy y l r z (inr e) = rw (eq-eqb y r e) (go (eqb y l))
-  where
-    go : (b : Bool) → withParent copy (cond b (withParent copy z) z) ≡ withParent copy z
-    go true = refl
-    go false = refl
-
--- the forked node by its side
-fork-sided : (key : Key) (c new copy : ℕ) (x : Node) → forkNode key c new copy x ≡ sidedNode (x .parent .0) key c (bit key c) new copy
-unfolding forkNode
-fork-sided key c new copy x = go (bit key c)
-  where
-    go : (b : Bool) → cond b (innerNode (x .parent .0) key c copy new) (innerNode (x .parent .0) key c new copy) ≡ sidedNode (x .parent .0) key c b new copy
-    go true = refl
-    go false = refl
-
-module _ {m n : ℕ} {ws : List ℕ} (a : Accepted m n ws) (key : Key) (fits : Fits key) (v : Value) (fits-value : FitsValue v) (t : Tree) (is : a .tree ≡ some t) (miss : lookup key t ≡ none)
+module _ {m n : ℕ} {ws : List ℕ} (a : Accepted m n ws) (key : Key) (fits : Fits key) (v : Value)
+    (fits-value : FitsValue v) (t : Tree) (is : a .tree ≡ some t) (miss : lookup key t ≡ none)
     (room : headerOf n ws .values .size < m) where
   -- ---- before
 
@@ -136,7 +72,7 @@ module _ {m n : ℕ} {ws : List ℕ} (a : Accepted m n ws) (key : Key) (fits : F
   new = h .nodes .head
 
   abbrev copy : ℕ
-  copy = nodes1 a room .head
+  copy = nodes1 a .head
 
   abbrev cell : ℕ
   cell = h .values .head
@@ -164,7 +100,9 @@ module _ {m n : ℕ} {ws : List ℕ} (a : Accepted m n ws) (key : Key) (fits : F
   busy-new y b = not-head (a .free-nodes) (node-part a) y (b .high) (b .not-free)
 
   busy-copy : (y : ℕ) → Busy h ws y → y ≢ copy
-  busy-copy y b = not-head (behind (a .free-nodes)) (node-part1 a room) y (omega (arith, b .high, bump-most (nextNodeOf ws) (h .nodes) (a .free-nodes))) (b .not-free)
+  busy-copy y b =
+      not-head (behind (a .free-nodes)) (node-part1 a room) y
+      (omega (arith, b .high, bump-most (nextNodeOf ws) (h .nodes) (a .free-nodes))) (b .not-free)
 
   differ : new ≢ copy
   differ = heads-differ (a .free-nodes) (node-part a)
@@ -175,7 +113,9 @@ module _ {m n : ℕ} {ws : List ℕ} (a : Accepted m n ws) (key : Key) (fits : F
   us = leafTaken m n ws h v
 
   abbrev vs : List ℕ
-  vs = forked n (adopted n (addImage (Nodes n) us (nodes1 a room)) copy (node .left .0) (node .right .0)) (top x) node c key new cell copy
+  vs =
+      forked n (adopted n (addImage (Nodes n) us (nodes1 a)) copy (node .left .0) (node .right .0))
+      (top x) node c key new cell copy
 
   split-image : splitImage m n ws h (top x) node c key v ≡ vs
   unfolding splitImage bothTaken copyIndex
@@ -183,33 +123,40 @@ module _ {m n : ℕ} {ws : List ℕ} (a : Accepted m n ws) (key : Key) (fits : F
       let index : copyIndex n ws h ≡ copy = ap (λ (z : Counts). z .head) (nodes-answered a room) in
       rw (index, nodes-answered a room)
 
-  more1 : nodes1 a room .bump ≤ nodes2 a room .bump
-  more1 = bump-most (nextNodeOf ws) (nodes1 a room) (behind (a .free-nodes))
+  more1 : nodes1 a .bump ≤ nodes2 a .bump
+  more1 = bump-most (nextNodeOf ws) (nodes1 a) (behind (a .free-nodes))
 
-  more : h .nodes .bump ≤ nodes2 a room .bump
+  more : h .nodes .bump ≤ nodes2 a .bump
   more = omega (arith, more1, bump-most (nextNodeOf ws) (h .nodes) (a .free-nodes))
 
-  most : nodes2 a room .bump ≤ n + 1
+  most : nodes2 a .bump ≤ n + 1
   most = node-part2 a room .rules .bump-most
 
-  new-used : new < nodes2 a room .bump
+  new-used : new < nodes2 a .bump
   new-used = omega (arith, more1, head-used (a .free-nodes) (node-part a))
 
-  copy-used : copy < nodes2 a room .bump
+  copy-used : copy < nodes2 a .bump
   copy-used = head-used (behind (a .free-nodes)) (node-part1 a room)
 
-  cell-used : cell < values1 a room .bump
+  cell-used : cell < values1 a .bump
   cell-used = head-used (a .free-values) (value-part a)
 
+  top-busy : Busy h ws (top x)
+  top-busy = busy (top x) (in-top x)
+
+  top-below : top x < nodes2 a .bump
+  top-below = omega (arith, more, top-busy .high)
+
   -- an index below the bump is a word
-  word : (y : ℕ) → y < nodes2 a room .bump → y < 2 ^ 32
+  word : (y : ℕ) → y < nodes2 a .bump → y < 2 ^ 32
   word y l = omega (arith, most, a .shape .most-nodes)
 
-  one : Stored m n (nodes2 a room .bump) (values1 a room .bump) ws us (changed new (withRegister Left 0))
-      (λ y r. changed cell (λ w. liveRecord new v) y (changed cell (withLink 0) y r)) (λ z. withValues (values1 a room) (withNodes (nodes1 a room) z))
-  one = leaf-stored a room (nodes2 a room .bump) more1 most v fits-value
+  one : Stored m n (nodes2 a .bump) (values1 a .bump) ws us (changed new (withRegister Left 0))
+      (λ y r. changed cell (λ w. liveRecord new v) y (changed cell (withLink 0) y r))
+      (λ z. withValues (values1 a) (withNodes (nodes1 a) z))
+  one = leaf-stored a room (nodes2 a .bump) more1 most v fits-value
 
-  copy-answered : addCounts (Nodes n) us (nodes1 a room) ≡ nodes2 a room
+  copy-answered : addCounts (Nodes n) us (nodes1 a) ≡ nodes2 a
   unfolding capacityOf
   copy-answered =
       counts-taken (Nodes n) us (behind (a .free-nodes)) (a .shape .most-nodes) (node-part1 a room)
@@ -237,38 +184,48 @@ module _ {m n : ℕ} {ws : List ℕ} (a : Accepted m n ws) (key : Key) (fits : F
       record {
         left-fits = f .left-fits;
         right-fits = f .right-fits;
-        parent-fits = word (top x) (omega (arith, more, busy (top x) (in-top x) .high));
+        parent-fits = word (top x) top-below;
         value-fits = f .value-fits;
         key-fits = f .key-fits;
         prefix-fits = f .prefix-fits;
       }
 
-  two : Stored m n (nodes2 a room .bump) (values1 a room .bump) ws vs
-      (λ y z. changed (top x) (λ w. forkNode key c new copy node) y (changed new (λ w. leafNode (top x) key cell) y (changed copy (λ w. withParent (top x) node) y
-      (changed (node .right .0) (withRegister Parent copy) y (changed (node .left .0) (withRegister Parent copy) y (changed copy (withRegister Left 0) y (changed new (withRegister Left 0) y z)))))))
-      (λ y r. changed cell (λ w. liveRecord new v) y (changed cell (withLink 0) y r)) (λ z. withNodes (nodes2 a room) (withValues (values1 a room) (withNodes (nodes1 a room) z)))
+  two : Stored m n (nodes2 a .bump) (values1 a .bump) ws vs
+      (λ y z. changed (top x) (λ w. forkNode key c new copy node) y
+      (changed new (λ w. leafNode (top x) key cell) y
+      (changed copy (λ w. withParent (top x) node) y
+      (changed (node .right .0) (withRegister Parent copy) y
+      (changed (node .left .0) (withRegister Parent copy) y
+      (changed copy (withRegister Left 0) y
+      (changed new (withRegister Left 0) y z)))))))
+      (λ y r. changed cell (λ w. liveRecord new v) y (changed cell (withLink 0) y r))
+      (λ z. withNodes (nodes2 a) (withValues (values1 a) (withNodes (nodes1 a) z)))
   unfolding forked adopted
   two =
-      let below : top x < nodes2 a room .bump = omega (arith, more, busy (top x) (in-top x) .high) in
-      let taken = add-node one (nodes1 a room) (node-part1 a room .rules .head-some) copy-used (part-fits (node-part1 a room) (a .shape .most-nodes)) in
-      let left = store-register taken (node .left .0) copy Parent (omega (arith, more, kids .left-used)) (word copy copy-used) in
-      let right = store-register left (node .right .0) copy Parent (omega (arith, more, kids .right-used)) (word copy copy-used) in
+      let low = node-part1 a room .rules .head-some in
+      let cell-fits : cell < 2 ^ 32 = omega (arith, cell-used, value-part1 a room .rules .bump-most, a .shape .most) in
+      let taken = add-node one (nodes1 a) low copy-used (part-fits (node-part1 a room) (a .shape .most-nodes)) in
+      let left =
+      store-register taken (node .left .0) copy Parent (omega (arith, more, kids .left-used)) (word copy copy-used) in
+      let right =
+      store-register left (node .right .0) copy Parent (omega (arith, more, kids .right-used)) (word copy copy-used) in
       let moved = store-node right copy (withParent (top x) node) copy-used moved-fits in
-      let leafed = store-node moved new (leafNode (top x) key cell) new-used
-          (leaf-fits (top x) key cell (word (top x) below) fits (omega (arith, cell-used, value-part1 a room .rules .bump-most, a .shape .most))) in
-      rw copy-answered at (store-node leafed (top x) (forkNode key c new copy node) below fork-fits)
+      let new-leaf = leaf-fits (top x) key cell (word (top x) top-below) fits cell-fits in
+      let leafed = store-node moved new (leafNode (top x) key cell) new-used new-leaf in
+      rw copy-answered at (store-node leafed (top x) (forkNode key c new copy node) top-below fork-fits)
 
-  header-is : headerOf n vs ≡ topped (nodes2 a room) (values1 a room)
+  header-is : headerOf n vs ≡ topped (nodes2 a) (values1 a)
   header-is =
       let root : h .root .0 ≡ 1 = a .header .root-one (size-some a t holds-tree) in
-      two .header ∙ λ ι. record { root = record { 0 = root ι }; nodes = nodes2 a room; values = values1 a room }
+      two .header ∙ λ ι. record { root = record { 0 = root ι }; nodes = nodes2 a; values = values1 a }
 
   -- ---- each node afterwards
 
-  inside : (y : ℕ) → y < nodes2 a room .bump → y ≤ n
+  inside : (y : ℕ) → y < nodes2 a .bump → y ≤ n
   inside y l = omega (arith, most)
 
-  kept : (y : ℕ) → 1 ≤ y → y < nodes2 a room .bump → y ≢ top x → y ≢ new → y ≢ copy → (Child y x → ⊥) → nodeOf vs y ≡ nodeOf ws y
+  kept : (y : ℕ) → 1 ≤ y → y < nodes2 a .bump → y ≢ top x → y ≢ new → y ≢ copy → (Child y x → ⊥)
+      → nodeOf vs y ≡ nodeOf ws y
   kept y l b d e f k =
       two .node y l (inside y b)
       ∙ rw (
@@ -279,7 +236,7 @@ module _ {m n : ℕ} {ws : List ℕ} (a : Accepted m n ws) (key : Key) (fits : F
         ne-eqb y (node .left .0) (λ q. k (kids .named y l (inl q))),
       )
 
-  at-split : SplitAt h (topped (nodes2 a room) (values1 a room)) ws vs key cell new copy x
+  at-split : SplitAt h (topped (nodes2 a) (values1 a)) ws vs key cell new copy x
   at-split =
       record {
         nodes = more;
@@ -291,10 +248,17 @@ module _ {m n : ℕ} {ws : List ℕ} (a : Accepted m n ws) (key : Key) (fits : F
         cell-some = a .header .values .head-some;
         cell-used = cell-used;
         differ = differ;
-        at-new = two .node new (a .header .nodes .head-some) (inside new new-used) ∙ rw (ne-eqb new (top x) (λ e. busy-new (top x) (busy (top x) (in-top x)) (sym e)), eq-eqb new new refl);
+        at-new = two .node new (a .header .nodes .head-some) (inside new new-used)
+            ∙ rw (ne-eqb new (top x) (λ e. busy-new (top x) top-busy (sym e)), eq-eqb new new refl);
         at-copy = two .node copy (node-part1 a room .rules .head-some) (inside copy copy-used)
-            ∙ rw (ne-eqb copy (top x) (λ e. busy-copy (top x) (busy (top x) (in-top x)) (sym e)), ne-eqb copy new (λ e. differ (sym e)), eq-eqb copy copy refl);
-        at-top = let b = busy (top x) (in-top x) in two .node (top x) (b .low) (inside (top x) (omega (arith, more, b .high))) ∙ rw (eq-eqb (top x) (top x) refl) (fork-sided key c new copy node);
+            ∙ rw (
+              ne-eqb copy (top x) (λ e. busy-copy (top x) top-busy (sym e)),
+              ne-eqb copy new (λ e. differ (sym e)),
+              eq-eqb
+                  copy copy refl,
+            );
+        at-top = two .node (top x) (top-busy .low) (inside (top x) top-below)
+            ∙ rw (eq-eqb (top x) (top x) refl) (fork-sided key c new copy node);
         at-child = child;
         at-other = λ y b d k. kept y (b .low) (omega (arith, more, b .high)) d (busy-new y b) (busy-copy y b) k;
       }
@@ -303,18 +267,24 @@ module _ {m n : ℕ} {ws : List ℕ} (a : Accepted m n ws) (key : Key) (fits : F
       child y q =
           let b = busy y (in-child y x q) in
           two .node y (b .low) (inside y (omega (arith, more, b .high)))
-          ∙ rw (ne-eqb y (top x) (kids .below y q), ne-eqb y new (busy-new y b), ne-eqb y copy (busy-copy y b)) (told copy y (node .left .0) (node .right .0) (nodeOf ws y) (kids .names y q))
+          ∙ rw (ne-eqb y (top x) (kids .below y q), ne-eqb y new (busy-new y b), ne-eqb y copy (busy-copy y b))
+          (told copy y (node .left .0) (node .right .0) (nodeOf ws y) (kids .names y q))
 
   -- the nodes that stay free
   nodes-same : All (λ y. nodeOf vs y ≡ nodeOf ws y) (behind (behind (a .free-nodes)))
   nodes-same =
-      all-both (λ y r (d : (y ≢ new) × (y ≢ copy)). free y (r .0) (r .1) (r .2) (d .0) (d .1)) (behind (behind (a .free-nodes))) (chain-range _ _ _ _ (behind (behind (a .free-nodes))) (node-part2 a room .chain))
-      (all-both (λ y d e. (d, e)) (behind (behind (a .free-nodes))) (all-behind (λ y. y ≢ new) (behind (a .free-nodes)) (behind-other (a .free-nodes) (node-part a)))
+      let rest = behind (behind (a .free-nodes)) in
+      all-both (λ y r (d : (y ≢ new) × (y ≢ copy)). free y (r .0) (r .1) (r .2) (d .0) (d .1)) rest
+      (chain-range _ _ _ _ rest (node-part2 a room .chain))
+      (all-both (λ y d e. (d, e)) rest
+      (all-behind (λ y. y ≢ new) (behind (a .free-nodes)) (behind-other (a .free-nodes) (node-part a)))
       (behind-other (behind (a .free-nodes)) (node-part1 a room)))
     where
-      free : (y : ℕ) → 1 ≤ y → y < nodes2 a room .bump → FreeNode h y (nodeOf ws y) → y ≢ new → y ≢ copy → nodeOf vs y ≡ nodeOf ws y
+      free : (y : ℕ) → 1 ≤ y → y < nodes2 a .bump → FreeNode h y (nodeOf ws y) → y ≢ new → y ≢ copy
+          → nodeOf vs y ≡ nodeOf ws y
       free y l b f d e =
-          kept y l b (λ q. busy (top x) (in-top x) .not-free (subst (λ z. FreeNode h z (nodeOf ws z)) q f)) d e (λ q. busy y (in-child y x q) .not-free f)
+          kept y l b (λ q. top-busy .not-free (subst (λ z. FreeNode h z (nodeOf ws z)) q f)) d e
+          (λ q. busy y (in-child y x q) .not-free f)
 
   -- ---- the tree afterwards
 
@@ -324,22 +294,26 @@ module _ {m n : ℕ} {ws : List ℕ} (a : Accepted m n ws) (key : Key) (fits : F
   ordered-grown : Ordered grown
   ordered-grown = ordered-insert key cell new copy t fits ordered
 
-  value-size : values1 a room .size ≡ h .values .size + 1
+  value-size : values1 a .size ≡ h .values .size + 1
   value-size = size-taken (nextValueOf n ws) (h .values) (a .free-values)
 
-  node-size : nodes2 a room .size ≡ h .nodes .size + 2
-  node-size = omega (arith, size-taken (nextNodeOf ws) (h .nodes) (a .free-nodes), size-taken (nextNodeOf ws) (nodes1 a room) (behind (a .free-nodes)))
+  node-size : nodes2 a .size ≡ h .nodes .size + 2
+  node-size =
+      let first = size-taken (nextNodeOf ws) (h .nodes) (a .free-nodes) in
+      let second = size-taken (nextNodeOf ws) (nodes1 a) (behind (a .free-nodes)) in
+      omega arith
 
   some-size : 1 ≤ h .values .size
   some-size = pos-of-ne-zero (size-some a t holds-tree)
 
-  holds-grown : HoldsMap (topped (nodes2 a room) (values1 a room)) vs (some grown)
+  holds-grown : HoldsMap (topped (nodes2 a) (values1 a)) vs (some grown)
   unfolding HoldsMap
   holds-grown =
       record {
         at-root = top-insert key cell new copy t ∙ holds-tree .at-root ∙ a .header .root-one (size-some a t holds-tree);
         counted = omega (arith, nodes-insert key cell new copy t miss, holds-tree .counted, node-size);
-        held = holds-insert h (topped (nodes2 a room) (values1 a room)) ws vs key cell new copy x at-split 0 0 t held ordered-grown miss (omega arith) refl;
+        held = holds-insert h (topped (nodes2 a) (values1 a)) ws vs key cell new copy x at-split 0 0 t held
+            ordered-grown miss (omega arith) refl;
       }
 
   -- ---- the entries afterwards
@@ -348,29 +322,37 @@ module _ {m n : ℕ} {ws : List ℕ} (a : Accepted m n ws) (key : Key) (fits : F
   entries-grown = entries-insert key cell new copy t fits ordered
 
   other : All (λ e. cell ≢ e .1) (entries t)
-  other = cell-other a room (some t) is
+  other = subst (λ (u : Map). All (λ e. cell ≢ e .1) (listOf u)) is (cell-other a room)
 
   different-grown : Numbered (entries grown)
-  different-grown = rw entries-grown (numbered-put key cell (entries t) (λ e. omega (arith, a .header .values .head-some)) other different)
+  different-grown =
+      rw entries-grown
+      (numbered-put key cell (entries t) (λ e. omega (arith, a .header .values .head-some)) other different)
 
   live-grown : All (λ e. Live (valueRecordOf n vs (e .1))) (entries grown)
   live-grown =
+      let live = subst (λ (u : Map). All (λ e. Live (valueRecordOf n ws (e .1))) (listOf u)) is (a .live) in
+      let kept =
+      all-both (λ e z d. record-after a room v two (e .1) (pos-of-ne-zero z) (λ q. d (sym q))) (entries t)
+      (different .nonzero) other in
       rw entries-grown
       (all-put (λ e. Live (valueRecordOf n vs (e .1))) key cell (entries t) (live-after a room v two)
-      (all-both (λ e k l. rw k l) (entries t) (all-both (λ e z d. record-after a room v two (e .1) (pos-of-ne-zero z) (λ q. d (sym q))) (entries t) (different .nonzero) other)
-      (subst (λ (u : Map). All (λ e. Live (valueRecordOf n ws (e .1))) (listOf u)) is (a .live))))
+      (all-both (λ e k l. rw k l) (entries t) kept live))
 
   -- ---- the image is accepted, and its list has the new entry
 
   accepted : Accepted m n vs
   accepted =
-      assembled a two header-is (node-part2 a room) nodes-same more (value-part1 a room) (free-after a room v two) (at-split .values)
-      (omega (arith, value-size)) (omega (arith, value-size)) (omega (arith, value-size, node-size, a .header .node-size, some-size)) grown holds-grown ordered-grown different-grown live-grown
+      assembled a two header-is (node-part2 a room) nodes-same more (value-part1 a room) (free-after a room v two)
+      (at-split .values) (omega (arith, value-size)) (omega (arith, value-size))
+      (omega (arith, value-size, node-size, a .header .node-size, some-size))
+      grown holds-grown ordered-grown different-grown live-grown
 
   tree-is : accepted .tree ≡ some grown
   unfolding accepted
   tree-is =
-      assembled-tree a two header-is (node-part2 a room) nodes-same more (value-part1 a room) (free-after a room v two) (at-split .values) _ _ _ grown holds-grown ordered-grown different-grown live-grown
+      assembled-tree a two header-is (node-part2 a room) nodes-same more (value-part1 a room) (free-after a room v two)
+      (at-split .values) _ _ _ grown holds-grown ordered-grown different-grown live-grown
 
   list-is : listed accepted ≡ enter key v (listed a)
   unfolding liveRecord
@@ -378,14 +360,22 @@ module _ {m n : ℕ} {ws : List ℕ} (a : Accepted m n ws) (key : Key) (fits : F
       let gone : find key (entries t) ≡ none = sym (lookup-find key t ordered) ∙ ap valueOf miss in
       ap (λ (u : Map). valued n vs (listOf u)) tree-is
       ∙ ap (valued n vs) entries-grown
-      ∙ valued-put n ws vs key v cell (ap (λ (r : ValueRecord). r .value) (cell-after a room v two)) (record-after a room v two) (entries t) (different .nonzero) other
+      ∙ valued-put n ws vs key v cell (ap (λ (r : ValueRecord). r .value) (cell-after a room v two))
+      (record-after a room v two) (entries t) (different .nonzero) other
       ∙ sym (enter-new key v (valued n ws (entries t)) (held-valued n ws key (entries t) ∙ ap is-some gone))
       ∙ ap (λ (u : Map). enter key v (valued n ws (listOf u))) (sym is)
 
   -- the key is found at the new leaf
   found : lookupIn key (accepted .tree) ≡ some (new, cell)
-  found = ap (lookupIn key) tree-is ∙ lookup-insert key cell new copy t ∙ ap (λ (o : Option (ℕ × ℕ)). some (Option·getD o (new, cell))) miss
+  found =
+      ap (lookupIn key) tree-is
+      ∙ lookup-insert key cell new copy t
+      ∙ ap (λ (o : Option (ℕ × ℕ)). some (Option·getD o (new, cell))) miss
 
-  pub split-agrees : (b : Accepted m n (splitImage m n ws (headerOf n ws) (top (target key t)) (nodeOf ws (top (target key t))) (shared key (keyOf (target key t))) key v))
-      × (listed b ≡ enter key v (listed a)) × (lookupIn key (b .tree) ≡ some (headerOf n ws .nodes .head, headerOf n ws .values .head))
+  pub split-agrees :
+      (b : Accepted m n
+      (splitImage m n ws (headerOf n ws) (top (target key t)) (nodeOf ws (top (target key t)))
+      (shared key (keyOf (target key t))) key v))
+      × (listed b ≡ enter key v (listed a))
+      × (lookupIn key (b .tree) ≡ some (headerOf n ws .nodes .head, headerOf n ws .values .head))
   split-agrees = rw split-image (accepted, list-is, found)
