@@ -1,4 +1,5 @@
--- The marks of the value records that leaves name: leaves mark one after the other, each a record that none marked before, exactly if they name different records.
+-- The marks of the value records that leaves name: leaves mark one after the other, each a record that none marked before,
+-- exactly if they name different records.
 use mathlib.Core.Path.{_≡_, refl, ap, _∙_}
 use mathlib.Core.List.{List, [], _∷_, _++_}
 use mathlib.Core.Logic.{_≢_}
@@ -47,7 +48,8 @@ still marks k at l e = go (ℕ-discrete k at)
     go (no d) = getD-set-other marks at k 1 0 d ∙ e
 
 -- who finds its record unmarked does not name a marked one
-unlike-marked : (x : Entry) (marks : List ℕ) (es : List Entry) → 1 ≤ x .1 → x .1 ≤ length marks → getD marks (x .1 - 1) 0 ≡ 1 → Fresh marks es → All (Unlike x) es
+unlike-marked : (x : Entry) (marks : List ℕ) (es : List Entry) → 1 ≤ x .1 → x .1 ≤ length marks → getD marks (x .1 - 1) 0 ≡ 1
+    → Fresh marks es → All (Unlike x) es
 unlike-marked x marks [] s l e f = tt
 unlike-marked x marks (y ∷ ys) s l e f = (
   (λ z. omega (arith, e, f .0, ap (λ (j : ℕ). getD marks (j - 1) 0) z)),
@@ -57,7 +59,8 @@ unlike-marked x marks (y ∷ ys) s l e f = (
 pub fresh-different : (marks : List ℕ) (es : List Entry) → Placed (length marks) es → Fresh marks es → Pairs Unlike es
 fresh-different marks [] p f = tt
 fresh-different marks (x ∷ xs) p f = (
-  unlike-marked x (set marks (x .1 - 1) 1) xs (p .0 .0) (rw length-set (p .0 .1)) (getD-set-same marks (x .1 - 1) 1 0 (omega (arith, p .0))) (f .1),
+  unlike-marked x (set marks (x .1 - 1) 1) xs (p .0 .0) (rw length-set (p .0 .1))
+      (getD-set-same marks (x .1 - 1) 1 0 (omega (arith, p .0))) (f .1),
   fresh-different (set marks (x .1 - 1) 1) xs (rw length-set (p .1)) (f .1),
 )
 
@@ -66,7 +69,8 @@ fresh-different marks (x ∷ xs) p f = (
 abbrev Clear : List ℕ → List Entry → Type 0
 Clear marks es = All (λ e. getD marks (e .1 - 1) 0 ≡ 0) es
 
-kept-clear : (x : Entry) (marks : List ℕ) (es : List Entry) → 1 ≤ x .1 → All (λ e. 1 ≤ e .1) es → All (Unlike x) es → Clear marks es → Clear (set marks (x .1 - 1) 1) es
+kept-clear : (x : Entry) (marks : List ℕ) (es : List Entry) → 1 ≤ x .1 → All (λ e. 1 ≤ e .1) es → All (Unlike x) es
+    → Clear marks es → Clear (set marks (x .1 - 1) 1) es
 kept-clear x marks [] s p u c = tt
 kept-clear x marks (y ∷ ys) s p u c =
     let d : y .1 - 1 ≢ x .1 - 1 = λ z. u .0 (omega (arith, p .0)) in
@@ -74,7 +78,8 @@ kept-clear x marks (y ∷ ys) s p u c =
 
 clear-fresh : (marks : List ℕ) (es : List Entry) → All (λ e. 1 ≤ e .1) es → Pairs Unlike es → Clear marks es → Fresh marks es
 clear-fresh marks [] p u c = tt
-clear-fresh marks (x ∷ xs) p u c = (c .0, clear-fresh (set marks (x .1 - 1) 1) xs (p .1) (u .1) (kept-clear x marks xs (p .0) (p .1) (u .0) (c .1)))
+clear-fresh marks (x ∷ xs) p u c =
+    (c .0, clear-fresh (set marks (x .1 - 1) 1) xs (p .1) (u .1) (kept-clear x marks xs (p .0) (p .1) (u .0) (c .1)))
 
 unmarked-zero : (m k : ℕ) → getD (unmarked m) k 0 ≡ 0
 unmarked-zero zero k = refl

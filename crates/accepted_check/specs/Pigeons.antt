@@ -15,12 +15,12 @@ Has x [] = ⊥
 Has x (y ∷ ys) = (x ≡ y) ⊎ Has x ys
 
 -- no number stands twice
-abbrev pub Apart : List ℕ → Type 0
-Apart xs = Pairs (λ (x y : ℕ). x ≢ y) xs
+abbrev pub Distinct : List ℕ → Type 0
+Distinct xs = Pairs (λ (x y : ℕ). x ≢ y) xs
 
 -- each is one of 1..k
-abbrev pub Within : ℕ → List ℕ → Type 0
-Within k xs = All (λ (x : ℕ). (1 ≤ x) × (x ≤ k)) xs
+abbrev pub UpTo : ℕ → List ℕ → Type 0
+UpTo k xs = All (λ (x : ℕ). (1 ≤ x) × (x ≤ k)) xs
 
 pub has-all : (P : ℕ → Type 0) (x : ℕ) (xs : List ℕ) → All P xs → Has x xs → P x
 has-all P x [] a q = absurd q
@@ -58,18 +58,18 @@ has-or-not x (y ∷ ys) = go (ℕ-discrete x y) (has-or-not x ys)
 
 pub record Rest (k : ℕ) (xs : List ℕ) : Type 0 where
   pub others : List ℕ
-  pub different : Apart others
-  pub within : Within k others
+  pub different : Distinct others
+  pub within : UpTo k others
   pub one-less : length xs ≤ suc (length others)
   -- who differs from every entry differs from the others
   pub unlike : (x : ℕ) → All (λ y. x ≢ y) xs → All (λ y. x ≢ y) others
 
 -- the list itself, where no entry is k + 1
-whole : (k : ℕ) (xs : List ℕ) → All (λ y. suc k ≢ y) xs → Within (suc k) xs → Within k xs
+whole : (k : ℕ) (xs : List ℕ) → All (λ y. suc k ≢ y) xs → UpTo (suc k) xs → UpTo k xs
 whole k [] d w = tt
 whole k (x ∷ xs) d w = ((w .0 .0, omega (arith, w .0 .1, d .0)), whole k xs (d .1) (w .1))
 
-without : (k : ℕ) (xs : List ℕ) → Apart xs → Within (suc k) xs → Rest k xs
+without : (k : ℕ) (xs : List ℕ) → Distinct xs → UpTo (suc k) xs → Rest k xs
 without k [] a w = record { others = []; different = tt; within = tt; one-less = omega arith; unlike = λ y p. tt }
 without k (x ∷ xs) a w = go (ℕ-discrete (suc k) x) (without k xs (a .1) (w .1))
   where
@@ -92,7 +92,7 @@ without k (x ∷ xs) a w = go (ℕ-discrete (suc k) x) (without k xs (a .1) (w .
         }
 
 -- different numbers of 1..k are at most k
-pub at-most : (k : ℕ) (xs : List ℕ) → Apart xs → Within k xs → length xs ≤ k
+pub at-most : (k : ℕ) (xs : List ℕ) → Distinct xs → UpTo k xs → length xs ≤ k
 at-most zero [] a w = omega arith
 at-most zero (x ∷ xs) a w = absurd (omega (arith, w .0))
 at-most (suc k) xs a w =
@@ -100,7 +100,7 @@ at-most (suc k) xs a w =
     omega (arith, r .one-less, at-most k (r .others) (r .different) (r .within))
 
 -- k different numbers of 1..k are all of them
-pub all-there : (k : ℕ) (xs : List ℕ) → Apart xs → Within k xs → k ≤ length xs → (y : ℕ) → 1 ≤ y → y ≤ k → Has y xs
+pub all-there : (k : ℕ) (xs : List ℕ) → Distinct xs → UpTo k xs → k ≤ length xs → (y : ℕ) → 1 ≤ y → y ≤ k → Has y xs
 all-there k xs a w many y low high = go (has-or-not y xs)
   where
     go : Has y xs ⊎ All (λ x. y ≢ x) xs → Has y xs
@@ -130,9 +130,10 @@ three-alike {A} {B} {C} {A′} {C′} f g h k o =
     go (inr (inl b)) = inr (inl b)
     go (inr (inr c)) = inr (inr (h c))
 
--- Different numbers below the bump, in two lists, as many as there are: each number is in the one, in the other, or not below the bump.
-pub three-places : (bump : ℕ) (xs ys : List ℕ) → Apart xs → Apart ys → ((x : ℕ) → Has x xs → Has x ys → ⊥) → Within (bump - 1) xs → Within (bump - 1) ys
-    → bump - 1 ≤ length xs + length ys → (x : ℕ) → 1 ≤ x → OneOfThree (Has x xs) (Has x ys) (bump ≤ x)
+-- Different numbers below the bump, in two lists, as many as there are: each number is in the one, in the other, or not below the
+-- bump.
+pub three-places : (bump : ℕ) (xs ys : List ℕ) → Distinct xs → Distinct ys → ((x : ℕ) → Has x xs → Has x ys → ⊥)
+    → UpTo (bump - 1) xs → UpTo (bump - 1) ys → bump - 1 ≤ length xs + length ys → (x : ℕ) → 1 ≤ x → OneOfThree (Has x xs) (Has x ys) (bump ≤ x)
 three-places bump xs ys a b both w v many x low =
     record {
       at-least = go (decLe bump x);
@@ -151,8 +152,11 @@ three-places bump xs ys a b both w v many x low =
 
     go : Dec (bump ≤ x) → Has x xs ⊎ (Has x ys ⊎ (bump ≤ x))
     go (yes l) = inr (inr l)
-    go (no d) = found (has-parts x xs ys (all-there (bump - 1) (xs ++ ys) (pairs-append (λ (x y : ℕ). x ≢ y) xs ys a b (apart-each xs both))
-        (all-append (λ z. (1 ≤ z) × (z ≤ bump - 1)) xs ys w v) (rw length-append many) x low (omega (arith, lt-of-not-le d))))
+    go (no d) =
+        let each = pairs-append (λ (x y : ℕ). x ≢ y) xs ys a b (apart-each xs both) in
+        let all = all-append (λ z. (1 ≤ z) × (z ≤ bump - 1)) xs ys w v in
+        let there = all-there (bump - 1) (xs ++ ys) each all (rw length-append many) x low (omega (arith, lt-of-not-le d)) in
+        found (has-parts x xs ys there)
       where
         found : Has x xs ⊎ Has x ys → Has x xs ⊎ (Has x ys ⊎ (bump ≤ x))
         found (inl q) = inl q

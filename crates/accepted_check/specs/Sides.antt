@@ -1,4 +1,5 @@
--- "Local is global": if each child's key shares its parent's p bits and has the side's bit, every leaf below does, and the other way round. And the walk's test of a side is the rule.
+-- "Local is global": if each child's key shares its parent's p bits and has the side's bit, every leaf below does, and the other
+-- way round. And the walk's test of a side is the rule.
 use mathlib.Core.Path.{_≡_, refl, sym, _∙_}
 use mathlib.Core.Logic.{⊎-elim}
 use mathlib.Core.Bool.{Bool, true, false, _&&_, Bool·beq, false≢true}
@@ -24,13 +25,17 @@ side-moves k p b a c l s = record { shares = omega (arith, s .shares, ultra k a 
 pub side-down : (k : Key) (p : ℕ) (b : Bool) (t : Tree) → p < prefixOf t → Ordered t → Side k p b (keyOf t) → Each (Side k p b) t
 side-down k p b (leaf i a v) l o s = s
 side-down k p b (inner i a q x y) l o s =
-    (each-map (λ c h. side-moves k p b a c (omega (arith, l, h .shares)) s) x (o .left), each-map (λ c h. side-moves k p b a c (omega (arith, l, h .shares)) s) y (o .right))
+    (each-map (moves false) x (o .left), each-map (moves true) y (o .right))
+  where
+    moves : (side : Bool) (c : Key) → Side a q side c → Side k p b c
+    moves side c h = side-moves k p b a c (omega (arith, l, h .shares)) s
 
 -- what holds of every leaf holds of the top's key
 pub side-up : (k : Key) (p : ℕ) (b : Bool) (t : Tree) → p < prefixOf t → Ordered t → Each (Side k p b) t → Side k p b (keyOf t)
 side-up k p b (leaf i a v) l o s = s
 side-up k p b (inner i a q x y) l o s =
-    side-moves k p b (first x) a (omega (arith, l, turn a (first x), each-first (Side a q false) x (o .left) .shares)) (each-first (Side k p b) x (s .0))
+    side-moves k p b (first x) a (omega (arith, l, turn a (first x), each-first (Side a q false) x (o .left) .shares))
+    (each-first (Side k p b) x (s .0))
 
 -- ---- the test: `low` is one more than the prefix length above, and 0 at the root
 
@@ -54,10 +59,11 @@ side-rules low k b x e p z = ⊎-elim (λ (y : eqb low 0 ≡ true). absurd (omeg
     less : low - 1 ≡ p
     less = omega arith
 
-    tested : leb (low - 1) (common (numberOf k) (numberOf (x .key))) && Bool·beq (bitOf (numberOf (x .key)) (low - 1)) b ≡ true → Side k p b (x .key)
+    tested : leb (low - 1) (common (numberOf k) (numberOf (x .key))) && Bool·beq (bitOf (numberOf (x .key)) (low - 1)) b ≡ true
+        → Side k p b (x .key)
     tested y =
-        let near : low - 1 ≤ shared k (x .key) = leb-true (low - 1) (shared k (x .key)) (and-l _ (Bool·beq (bitOf (numberOf (x .key)) (low - 1)) b) y) in
-        let turned : bit (x .key) (low - 1) ≡ b = beq-equal (bit (x .key) (low - 1)) b (and-r (leb (low - 1) (shared k (x .key))) _ y) in
+        let near : low - 1 ≤ shared k (x .key) = leb-true (low - 1) (shared k (x .key)) (search and-l) in
+        let turned : bit (x .key) (low - 1) ≡ b = beq-equal (bit (x .key) (low - 1)) b (search and-r) in
         record { shares = omega arith; turns = rw less at turned }
 
 pub side-passes : (low : ℕ) (k : Key) (b : Bool) (x : Node) → OnSide low k b (x .key) → sideOk low k b x ≡ true

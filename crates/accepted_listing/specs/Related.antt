@@ -17,12 +17,13 @@ use Rattle.records.specs.declared.Refusal.the-variants as no
 use Rattle.records.specs.declared.Done.the-variants as done
 use Rattle.records.specs.declared.Entry.the-variants as entry
 use Rattle.records.specs.Records.{headerOf, valueRecordOf}
+use Rattle.inspection.specs.Visit.{firstOf, liveOf}
 use Rattle.listing.specs.declared.Stack.{Stack}
 use Rattle.listing.specs.declared.Position.{Position}
 use Rattle.listing.specs.declared.Reached.{Reached}
 use Rattle.listing.specs.declared.Moved.{Moved}
 use Rattle.listing.specs.Position.{noNodes, emptyStack, rootStack, bothEnds, openedMade, madeOf}
-use Rattle.listing.specs.Step.{popTo, leafMoved, openedMoved, movedOf, nearEnd, farEnd, withNear, openedStep, stepOf}
+use Rattle.listing.specs.Step.{popTo, liveMoved, leafMoved, openedMoved, movedOf, nearEnd, farEnd, withNear, openedStep, stepOf}
 use Rattle.lists.specs.Lists.{All, all-parts}
 use Rattle.lists.specs.Answers.{entryFrom}
 use Rattle.trees.specs.Tree.{Tree, leaf, inner, entries, entries-some}
@@ -34,8 +35,8 @@ use Rattle.trees.specs.Walk as walk
 use Rattle.trees.specs.Stacks.{passed, passedIn, Small, Perched, perched-length, Within, step-within, during-small, start-within, popped-all}
 use Rattle.accepted.specs.Rules.{Live}
 use Rattle.accepted.specs.Accepted.{Accepted, HoldsMap, valueAtRecord}
-use Rattle.accepted.specs.Held.{form-passes}
-use Rattle.accepted.specs.Tests.{shape-passes, opened, live-passes}
+use Rattle.accepted.specs.Held.{accepted-clean, accepted-opens, form-passes}
+use Rattle.accepted.specs.Tests.{shape-passes, live-passes}
 use Rattle.accepted_lookup.specs.Answers.{nodes-entries, size-some}
 use Rattle.accepted_lookup.specs.Descents.{at}
 use Rattle.accepted_listing.specs.Parts.{PartOf, HeldPart, part-whole, map-children, map-entries, map-held, Named}
@@ -85,13 +86,13 @@ module _ {m n : ℕ} {ws : List ℕ} (a : Accepted m n ws) where
 
   -- the popped tree is held, and is opened until its leaf comes
   popped-to : (back : Bool) (t : Tree) (s : List Tree) (last : ℕ) (st : Stack) → SameEnd (a .tree) (record { stack = t ∷ s; last = last }) st → Perched (t ∷ s)
-      → All Small (passed back t s) → Opens ws (popped back t s) (popTo back (headerOf n ws) ws st)
-  unfolding popTo
+      → All Small (passed back t s) → Opens (popped back t s) (popTo back (headerOf n ws) ws st)
+  unfolding popTo firstOf
   popped-to back t s last st e q b =
       let one : st .count - 1 ≡ length s = omega (arith, e .counted) in
       let k : HeldPart (headerOf n ws) ws t = map-held (headerOf n ws) ws (a .tree) t (e .parts .0) (a .holds) in
-      rw (one, e .named .0, form-passes (headerOf n ws) ws (k .parent) (k .low) t (k .held))
-      (opens (headerOf n ws) ws back 129 (st .places) s t (k .parent) (k .low) (e .room) (e .named .1) b (omega (arith, depth-bound t (q .order))) (k .held))
+      rw (one, e .named .0, form-passes (headerOf n ws) ws (accepted-clean a) (k .parent) (k .low) t (k .held))
+      (opens (headerOf n ws) ws (accepted-clean a) back 129 (st .places) s t (k .parent) (k .low) (e .room) (e .named .1) b (omega (arith, depth-bound t (q .order))) (k .held))
 
   -- ---- what the leaf comes to
 
@@ -100,11 +101,11 @@ module _ {m n : ℕ} {ws : List ℕ} (a : Accepted m n ws) where
   parts-left back t s h = popped-all (PartOf (a .tree)) (map-children (a .tree)) back t s h
 
   -- the ends meet, or the entry is given: its value record is live
-  leaf-moved : (x : Entry × List Tree) (last other : ℕ) (st : Stack) (far : ValueIndex) (o : Reached) → Opens ws x o → st .last ≡ record { 0 = last } → far .0 ≡ other
+  leaf-moved : (x : Entry × List Tree) (last other : ℕ) (st : Stack) (far : ValueIndex) (o : Reached) → Opens x o → st .last ≡ record { 0 = last } → far .0 ≡ other
       → Live (valueRecordOf n ws (x .0 .1)) → All (PartOf (a .tree)) (x .1) → Moves (cond (eqb (x .0 .1) other) (meets x last) (gives x)) (openedMoved n ws st far o)
-  unfolding openedMoved leafMoved
+  unfolding openedMoved leafMoved liveMoved liveOf
   leaf-moved x last other st far o g l f v parts =
-      rw (g .passes, g .entry, f, live-passes (valueRecordOf n ws (x .0 .1)) v) (go (eqb (x .0 .1) other))
+      rw (g .came, f, live-passes n ws (o .leaf .0) (x .0 .1) v) (go (eqb (x .0 .1) other))
     where
       go : (b : Bool)
           → Moves (cond b (meets x last) (gives x))
@@ -142,7 +143,7 @@ module _ {m n : ℕ} {ws : List ℕ} (a : Accepted m n ws) where
   unfolding stepOf openedStep
   stepped back w p r =
       let small = counts-bound (a .tree) w p r in
-      rw (shape-passes (a .shape), le-leb (p .front .count) 129 (small .0), le-leb (p .back .count) 129 (small .1), opened m n ws (a .shape) (a .header))
+      rw (shape-passes (a .shape), le-leb (p .front .count) 129 (small .0), le-leb (p .back .count) 129 (small .1), accepted-opens a)
 
   -- what a step must come to, where the walk's step comes to z
   abbrev Steps : Bool → Position → Option Entry × walk.Position → Moved → Type 0
@@ -195,4 +196,4 @@ module _ {m n : ℕ} {ws : List ℕ} (a : Accepted m n ws) where
   -- Making a position succeeds, and the position is related to the walk's start.
   pub made-agrees : (madeOf m n ws .answer ≡ done.Yes) × Related (a .tree) (start (a .tree)) (madeOf m n ws .position)
   unfolding madeOf openedMade
-  made-agrees = rw (opened m n ws (a .shape) (a .header)) (refl, begun (a .tree) (a .holds) (a .ordered))
+  made-agrees = rw (accepted-opens a) (refl, begun (a .tree) (a .holds) (a .ordered))

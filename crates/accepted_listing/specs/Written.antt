@@ -9,7 +9,7 @@ use borrow.Author.Tests.{eqb-true, ne-eqb}
 use Rattle.keys.specs.declared.Key.{Key}
 use Rattle.keys.specs.Number.{numberOf}
 use Rattle.records.specs.declared.Value.{Value}
-use Rattle.records.specs.Records.{headerOf}
+use Rattle.records.specs.Records.{headerOf, valueRecordOf}
 use Rattle.lookup.specs.declared.Target.{Target}
 use Rattle.lookup.specs.Get.{targetImage, writeImage}
 use Rattle.lists.specs.Lists.{All, all-append, all-map}
@@ -19,10 +19,10 @@ use Rattle.trees.specs.Tree.{Tree, leaf, inner, entries}
 use Rattle.trees.specs.Lookup.{valueOf}
 use Rattle.trees.specs.Map.{Map, listOf, lookupIn, map-ascending}
 use Rattle.trees.specs.Values.{Entry}
-use Rattle.accepted.specs.Rules.{Holds}
+use Rattle.accepted.specs.Rules.{Live}
 use Rattle.accepted.specs.Held.{list-used}
 use Rattle.accepted.specs.Accepted.{Accepted, HoldsMap, valueAtRecord}
-use Rattle.accepted_lookup.specs.Answers.{valued, listed, targetFrom, value-found, target-agrees}
+use Rattle.accepted_lookup.specs.Answers.{valued, listed, targetFrom, value-found, target-value, target-agrees}
 use Rattle.accepted_write.specs.Write.{value-accepted, value-tree, value-listed}
 use Rattle.accepted_listing.specs.Segments.{Segment, segment-whole, segment-all, segment-pairs}
 
@@ -92,12 +92,14 @@ module _ {m n : ℕ} {ws : List ℕ} (a : Accepted m n ws) where
       go (some e) q =
           let hit : find key (listOf (a .tree)) ≡ some (e .1) = sym (value-found a key) ∙ ap valueOf q in
           let inside = find-all (λ j. (1 ≤ j) × (j < headerOf n ws .values .bump)) key (listOf (a .tree)) (e .1) (list-used (headerOf n ws) ws (a .tree) (a .holds)) hit in
-          record {
-            image = value-accepted a (e .1) (inside .0) (inside .1) v fits;
-            same-tree = value-tree a (e .1) (inside .0) (inside .1) v fits;
+          let alive = find-all (λ j. Live (valueRecordOf n ws j)) key (listOf (a .tree)) (e .1) (a .live) hit in
+          rw (target-value a key e q)
+          (record {
+            image = value-accepted a (e .0) (e .1) (inside .0) (inside .1) alive v fits;
+            same-tree = value-tree a (e .0) (e .1) (inside .0) (inside .1) alive v fits;
             values = apart _ _ (listOf (a .tree))
-                (value-listed a (e .1) (inside .0) (inside .1) v fits key (listOf (a .tree)) (a .different) hit ∙ update-touched n ws key v (listOf (a .tree)) rising);
-          }
+                (value-listed a (e .0) (e .1) (inside .0) (inside .1) alive v fits key (listOf (a .tree)) (a .different) hit ∙ update-touched n ws key v (listOf (a .tree)) rising);
+          })
 
   -- in the list, and in every segment of it, the key's entry gets the value
   pub segment-written : (key : Key) (v : Value) (vs : List ℕ) → Kept a key v vs → (es : List Entry) → Segment es (listOf (a .tree)) → valued n vs es ≡ update key v (valued n ws es)

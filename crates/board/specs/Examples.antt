@@ -1,4 +1,4 @@
--- The board's calls on small cases: the order of the output's bytes, and a map with M = 1 and N = 2, in bytes, that holds document 01's key A: "A is 2^127, B is 0". The numbers are those of the contracts.
+-- The board's calls on small cases: the order of the output's bytes, and a map with M = 1 and N = 2, in bytes, that holds key A: "A is 2^127, B is 0". The numbers are those of the contracts.
 use mathlib.Core.Path.{_≡_, refl}
 use mathlib.Core.List.{List, [], _∷_, _++_}
 use Prim.Native.Nat.{ℕ, _^_}
@@ -10,12 +10,13 @@ use Rattle.keys.specs.declared.Key.{Key}
 use Rattle.keys.specs.Number.{numberOf}
 use Rattle.keys.specs.Common.{commonOf, common, bitOf}
 use Rattle.records.specs.Layout.{imageOf}
-use Rattle.records.specs.Records.{headerOf, nodeOf, recordFrom}
-use Rattle.inspection.specs.Tests.{arenaOk, countsOk, headerOk, formOk, nodeOk, freeNode, freeValue}
-use Rattle.inspection.specs.Opening.{openOf}
+use Rattle.records.specs.Records.{headerOf, frontOf, spareOf, nodeOf, paddingOf, recordFrom}
+use Rattle.inspection.specs.Tests.{arenaOk, countsOk, headerOk, topOk, paddingOk, formOk, nodeOk, rootOk, liveValue, freeNode, freeValue}
+use Rattle.inspection.specs.Visit.{liveOf}
+use Rattle.inspection.specs.Opening.{openShaped, openOf}
 use Rattle.records.specs.Numbers.{doneNumber, gotNumber, gotValue, refusalNumber}
-use Rattle.descent.specs.Descent.{lookupTurn, childOf, stepOf, descend, fromRoot}
-use Rattle.lookup.specs.Get.{leafTarget, stopTarget, openedTarget, targetOf, targetGot, getOf}
+use Rattle.descent.specs.Descent.{lookupTurn, childOf, turnAt, descend, fromRoot}
+use Rattle.lookup.specs.Get.{liveTarget, stopTarget, openedTarget, targetOf, targetGot, getOf}
 use Rattle.full_check.specs.Walk.{sideOk, visitOk, leafWalk, joined, walkOf}
 use Rattle.full_check.specs.Chains.{chainOf, nodeChain, valueChain, nodesUnused, valuesUnused}
 use Rattle.full_check.specs.Check.{rootWalk, treeOk, recordsOk, openedCheck, checkShape, checkOf}
@@ -63,8 +64,10 @@ pub looked :
     × (got (bytesOf (set held 36 1)) A 17 ≡ (2, nil 16 ++ (7 ∷ [])))
     × (got (bytesOf held) A 15 ≡ (1, replicate 15 7))
     × (got (drop 1 (bytesOf held)) A 17 ≡ (1, replicate 17 7))
-unfolding lookupOf outputAfter valueBytes gotNumber gotValue refusalNumber imageOf words getOf targetGot targetOf openedTarget stopTarget leafTarget openOf headerOf wideAt headerOk countsOk arenaOk
-    fromRoot descend stepOf lookupTurn childOf nodeOf nodeOk formOk numberOf common commonOf bitOf recordFrom
+unfolding
+    lookupOf outputAfter valueBytes gotNumber gotValue refusalNumber imageOf words getOf targetGot targetOf openedTarget stopTarget liveTarget liveOf liveValue
+    openOf openShaped headerOf frontOf spareOf wideAt topOk headerOk countsOk arenaOk fromRoot rootOk descend turnAt lookupTurn childOf nodeOf paddingOf paddingOk
+    nodeOk formOk numberOf common commonOf bitOf recordFrom
 looked = (refl, refl, refl, refl, refl)
 
 abbrev checked : List ℕ → ℕ → ℕ × List ℕ
@@ -77,7 +80,8 @@ pub check :
     × (checked (bytesOf (set held 36 1)) 7 ≡ (2, nil 4 ++ replicate 3 7))
     × (checked (bytesOf held) 3 ≡ (1, replicate 3 7))
     × (checked (drop 1 (bytesOf held)) 7 ≡ (1, replicate 7 7))
-unfolding boardCheck scratchAfter imageOf words checkOf checkShape openOf openedCheck doneNumber refusalNumber headerOf wideAt headerOk countsOk arenaOk
-    recordsOk treeOk rootWalk walkOf visitOk nodeOf nodeOk formOk sideOk numberOf common commonOf bitOf joined leafWalk recordFrom
+unfolding
+    boardCheck scratchAfter imageOf words checkOf checkShape openOf openShaped openedCheck doneNumber refusalNumber headerOf frontOf spareOf wideAt topOk headerOk countsOk arenaOk
+    recordsOk treeOk rootOk rootWalk walkOf visitOk nodeOf paddingOf paddingOk nodeOk formOk sideOk numberOf common commonOf bitOf joined leafWalk liveValue recordFrom
     nodeChain valueChain chainOf freeNode freeValue nodesUnused valuesUnused zerosAt
 check = (refl, refl, refl, refl)

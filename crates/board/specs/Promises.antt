@@ -17,7 +17,7 @@ use Rattle.records.specs.declared.Got.{Got}
 use Rattle.records.specs.declared.Got.the-variants as got
 use Rattle.records.specs.Layout.{imageOf}
 use Rattle.records.specs.Records.{headerOf}
-use Rattle.inspection.specs.Tests.{shapeOk, headerOk}
+use Rattle.inspection.specs.Tests.{shapeOk, topOk}
 use Rattle.inspection.specs.Room.{shaped, shaped-whole, whole-words}
 use Rattle.records.specs.Numbers.{refusalNumber, doneNumber, gotNumber, gotValue}
 use Rattle.lookup.specs.Get.{getOf}
@@ -112,10 +112,10 @@ pub record CheckNumbers (m n : ℕ) (ws scratch : List ℕ) (number : ℕ) : Typ
   pub shape : (number ≡ 1) ↔ ((shapeOk m n (length ws) ≡ false) ⊎ (length scratch < 4 * m))
   -- a test of the header or of a record fails
   pub damaged : (number ≡ 2)
-      ↔ ((shapeOk m n (length ws) ≡ true) × (4 * m ≤ length scratch) × ((headerOk m n (headerOf n ws) ≡ false) ⊎ (recordsOk m n (headerOf n ws) ws ≡ false)))
+      ↔ ((shapeOk m n (length ws) ≡ true) × (4 * m ≤ length scratch) × ((topOk m n ws ≡ false) ⊎ (recordsOk m n (headerOf n ws) ws ≡ false)))
   -- the header and all records pass
   pub accepted : (number ≡ 0)
-      ↔ ((shapeOk m n (length ws) ≡ true) × (4 * m ≤ length scratch) × (headerOk m n (headerOf n ws) ≡ true) × (recordsOk m n (headerOf n ws) ws ≡ true))
+      ↔ ((shapeOk m n (length ws) ≡ true) × (4 * m ≤ length scratch) × (topOk m n ws ≡ true) × (recordsOk m n (headerOf n ws) ws ≡ true))
   pub no-other : number ≤ 2
 
 pub check-numbers : (m n : ℕ) (ws scratch : List ℕ) → CheckNumbers m n ws scratch (doneNumber (boardCheck m n ws scratch))

@@ -77,6 +77,10 @@ module _ (n : ℕ) (h : Header) (ws : List ℕ) (rest : ℕ) (marks : List ℕ) 
         both e r right zero k = absurd (omega arith)
         both e r right (suc f) k = simp (ok x (inl came), ← node x (inl came), side, came-inner h ws i above low x came, ← left f (enough f k), e, ← right f (enough f k))
 
+-- prefix lengths rise from a node to its children, so that the measure of a walk falls
+pub falls-below : (t low : ℕ) (x : Node) → t ≡ 129 - low → (low ≤ x .prefix) × (x .prefix < 128) → (129 - (x .prefix + 1) < t) × (x .prefix + 1 ≤ 128)
+falls-below t low x e b = (omega (arith, e, b .0, b .1), omega (arith, b .1))
+
 -- a leaf names a value record
 pub leaf-names : (h : Header) (ws : List ℕ) (i above low : ℕ) (x : Node) → visitOf h ws i above low ≡ visited.Leaf x → 1 ≤ x .value .0
 leaf-names h ws i above low x e =

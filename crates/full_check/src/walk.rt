@@ -91,9 +91,10 @@ fn walk(
         Visited::Inner(x) => {
             if in_order(low, key, right, rest, x) {
                 let own = x.key;
-                let l = walk(img, marks, n, h, rest - 1, x.left, i, x.prefix + 1, own, false);
+                let least = x.prefix + 1;
+                let l = walk(img, marks, n, h, rest - 1, x.left, i, least, own, false);
                 if l.passed {
-                    return walk(img, marks, n, h, l.rest, x.right, i, x.prefix + 1, own, true);
+                    return walk(img, marks, n, h, l.rest, x.right, i, least, own, true);
                 }
                 return l;
             }

@@ -1,4 +1,4 @@
--- Document 01's starred bench examples, one table under one statement: each line is computed from the calls' definitions, beginning with blank memory.
+-- The starred bench examples of the rules, one table under one statement: each line is computed from the calls' definitions, beginning with blank memory.
 use mathlib.Core.Path.{_≡_, refl}
 use mathlib.Core.List.{List, [], _∷_}
 use mathlib.Core.Bool.{Bool, true, false}
@@ -10,7 +10,7 @@ use Rattle.keys.specs.declared.Key.{Key}
 use Rattle.keys.specs.Number.{numberOf}
 use Rattle.keys.specs.Common.{common, commonOf, bitOf}
 use Rattle.node_allocator.specs.Layout.{headerAt, recordAt, capacityOf, widthOf, valuesAt}
-use Rattle.node_allocator.specs.Steps.{countsOf, getRegister, setRegister, connected, disconnected, neverUsed, freshTaken, freedTaken, unlinked, addIndex, addImage, removeImage}
+use Rattle.node_allocator.specs.Steps.{countsOf, setCounts, initialized, getRegister, setRegister, neverUsed, taken, addCounts, addImage, freed, removeCounts, removeImage}
 use Rattle.records.specs.declared.Done.the-variants as done
 use Rattle.records.specs.declared.Entry.{Entry}
 use Rattle.records.specs.declared.Entry.the-variants as entry
@@ -20,16 +20,16 @@ use Rattle.records.specs.declared.Place.the-variants as place
 use Rattle.records.specs.declared.Refusal.the-variants as no
 use Rattle.records.specs.declared.Value.{Value}
 use Rattle.records.specs.Layout.{imageLength}
-use Rattle.records.specs.Records.{headerOf, nodeOf, recordFrom, valueRecordOf}
-use Rattle.inspection.specs.Tests.{arenaOk, countsOk, headerOk, formOk, nodeOk, kidsOk, freeNode, freeValue}
-use Rattle.inspection.specs.Opening.{openOf}
-use Rattle.records.specs.Writes.{setContent, setValue}
-use Rattle.descent.specs.Descent.{childOf, lookupTurn, reachTurn, stepOf, descend, fromRoot}
+use Rattle.records.specs.Records.{headerOf, frontOf, spareOf, nodeOf, paddingOf, recordFrom, valueRecordOf}
+use Rattle.inspection.specs.Tests.{arenaOk, countsOk, headerOk, topOk, paddingOk, formOk, nodeOk, rootOk, kidsOk, liveValue, freeNode, freeValue}
+use Rattle.inspection.specs.Visit.{visitOf, firstOf, liveOf}
+use Rattle.inspection.specs.Opening.{openShaped, openOf, blankOf}
+use Rattle.records.specs.Writes.{registersSet, keySet, nodeSet, setNode, valueSet, liveRecord, setValue}
+use Rattle.descent.specs.Descent.{childOf, lookupTurn, bitsTurn, turnAt, descend, fromRoot}
 use Rattle.lookup.specs.Start.{started, startOf, doneImage, startImage}
 use Rattle.lookup.specs.Get as get
 use Rattle.insert.specs.Plan as insert-plan
 use Rattle.insert.specs.Steps as insert
-use Rattle.remove_steps.specs.Steps.{siblingOf, unhung, leafRemoved, contentMoved, valueMoved, kidsMoved, placeFreed, migrated, cutImage}
 use Rattle.remove.specs.Plan as remove-plan
 use Rattle.remove.specs.Steps as remove
 use Rattle.listing.specs.declared.Position.{Position}
@@ -144,14 +144,16 @@ pub starred :
     × (insert.insertOf 2 4 once A ≡ at 1)
     × (get.getOf 2 4 twice A ≡ got.Found (value 2))
 unfolding
-    wideAt setWide zerosAt numberOf common commonOf bitOf headerAt recordAt capacityOf widthOf countsOf getRegister setRegister connected disconnected neverUsed freshTaken freedTaken unlinked
-    addIndex addImage removeImage headerOf nodeOf recordFrom arenaOk countsOk headerOk formOk nodeOk kidsOk freeNode freeValue openOf setContent setValue childOf lookupTurn reachTurn stepOf
-    descend fromRoot started startOf doneImage startImage get.leafTarget get.stopTarget get.openedTarget get.targetOf get.targetGot get.getOf get.stopPlace get.openedPlace get.addrOf
-    insert-plan.takenNode insert-plan.nextNode insert-plan.takenValue insert-plan.firstPlan insert-plan.stopPlan insert-plan.planOf insert.leafTaken insert.valueTaken insert.leafAdded
-    insert.copyTaken insert.hung insert.duplicated insert.replaced insert.firstImage insert.sharedOf insert.forkedImage insert.splitImage insert.planImage insert.planPlace insert.openedPlan
-    insert.insertOf insert.insertImage siblingOf unhung leafRemoved contentMoved valueMoved kidsMoved placeFreed migrated cutImage remove-plan.siblingOk remove-plan.leafPlan
-    remove-plan.stopPlan remove.planImage remove.valueGone remove.openedPlan remove.removeOf remove.removedImage openedMade madeOf listing.openTo listing.popTo listing.leafMoved
-    listing.openedMoved listing.movedOf listing.openedStep listing.stepOf empty one two three without again full once twice
+    wideAt setWide zerosAt numberOf common commonOf bitOf headerAt recordAt capacityOf widthOf countsOf initialized setCounts getRegister setRegister neverUsed taken addCounts addImage freed removeCounts removeImage
+    headerOf frontOf spareOf nodeOf paddingOf recordFrom arenaOk countsOk headerOk topOk paddingOk formOk nodeOk rootOk kidsOk liveValue freeNode freeValue visitOf firstOf liveOf openShaped openOf blankOf
+    registersSet keySet nodeSet setNode valueSet liveRecord setValue childOf lookupTurn bitsTurn turnAt descend fromRoot started doneImage startImage
+    get.liveTarget get.stopTarget get.openedTarget get.targetOf get.targetGot get.getOf get.stopPlace get.openedPlace get.addrOf
+    insert-plan.takenNode insert-plan.nextNode insert-plan.takenValue insert-plan.leafTests insert-plan.splitTests insert-plan.stopPlan insert-plan.insertPlan
+    insert.leafTaken insert.copyIndex insert.bothTaken insert.firstImage insert.adopted insert.forkNode insert.forked insert.splitImage insert.planImage insert.planPlace insert.openedPlan insert.insertOf insert.insertImage
+    remove-plan.siblingOf remove-plan.siblingOk remove-plan.cutPlan remove-plan.leafPlan remove-plan.stopPlan
+    remove.leafFreed remove.loneImage remove.moved remove.placeFreed remove.cutImage remove.planImage remove.valueGone remove.openedPlan remove.removeOf remove.removedImage
+    openedMade madeOf listing.openTurn listing.openTo listing.popTo listing.liveMoved listing.leafMoved listing.openedMoved listing.movedOf listing.openedStep listing.stepOf
+    empty one two three without again full once twice
 starred = (
   refl,
   refl,
