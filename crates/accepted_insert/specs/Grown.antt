@@ -1,140 +1,110 @@
--- An image with one entry more is accepted: the arenas' rules, the header's and the tree's together. And what is known of the node that is split: its key and its children.
-use mathlib.Core.Path.{_≡_, refl, sym, ap, subst, _∙_}
-use mathlib.Core.List.{List, [], _∷_}
-use mathlib.Core.Logic.{_≢_, _⊎_, inl, inr}
+-- The rules of the image after an insert, put together: the padding and the unused words by what the stores keep, the
+-- chains by the arenas that are left,
+-- the header by its counts, and the tree as it is found.
+use mathlib.Core.Path.{_≡_, refl, ap, _∙_}
+use mathlib.Core.List.{List}
 use mathlib.Core.Option.{some}
-use Prim.Native.Nat.{ℕ, _+_, _≤_, _<_}
+use Prim.Native.Nat.{ℕ, _-_, _*_, _≤_}
 use native.Mathlib.Omega.{arith}
-use Rattle.keys.specs.declared.Key.{Key}
+use Rattle.node_allocator.specs.declared.Counts.{Counts}
 use Rattle.records.specs.declared.Header.{Header}
 use Rattle.records.specs.declared.Node.{Node}
+use Rattle.records.specs.declared.ValueRecord.{ValueRecord}
 use Rattle.records.specs.Records.{headerOf, nodeOf, valueRecordOf}
-use Rattle.lists.specs.Lists.{All, all-map, all-append}
-use Rattle.trees.specs.Tree.{Tree, leaf, inner, top, keyOf, entries, Ordered}
-use Rattle.trees.specs.Nodes.{In, Child, in-top}
+use Rattle.lists.specs.Lists.{All, all-map}
+use Rattle.trees.specs.Tree.{Tree, entries, Ordered}
 use Rattle.trees.specs.Values.{Numbered}
-use Rattle.accepted.specs.Rules.{HeaderRules, Holds, Live, FreeNode}
+use Rattle.record_views.specs.Stored.{Stored, front-after, spare-after, padding-after}
+use Rattle.accepted.specs.Rules.{HeaderRules, Live, Link, FreeNode, FreeValue}
 use Rattle.accepted.specs.Accepted.{Accepted, HoldsMap}
-use Rattle.accepted.specs.Held.{Once, once, entries-used}
-use Rattle.accepted.specs.Frame.{chain-range}
-use Rattle.accepted.specs.Apart.{live-not-free}
-use Rattle.accepted_insert.specs.Arenas.{Used, used-other, FreeNodeOf, nextNodeOf, FreeValueOf, nextValueOf, Arenas}
-use Rattle.accepted_insert.specs.Stored.{Named}
-use Rattle.accepted_insert.specs.Holding.{in-used}
+use Rattle.accepted.specs.Frame.{chain-kept, nodes-unused-after, values-unused-after}
+use Rattle.accepted_insert.specs.Arenas.{Part, FreeNodeOf, nextNodeOf, FreeValueOf, nextValueOf}
 
--- ---- all rules together
+-- what is free below a bump is free below a higher one
+link-higher : {bump higher i next : ℕ} → bump ≤ higher → Link bump i next → Link higher i next
+link-higher l k = record { some = k .some; most = omega (arith, k .most); other = k .other }
 
-module _ {m n : ℕ} {ws xs ys : List ℕ} (b : Arenas m n ws xs ys) (rules : HeaderRules m n (headerOf n ws)) (t : Tree) (held : HoldsMap (headerOf n ws) ws (some t))
-    (ordered : Ordered t) (different : Numbered (entries t)) (live : All (λ e. Live (valueRecordOf n ws (e .1))) (entries t)) where
-  pub assembled : Accepted m n ws
+free-node-higher : (h g : Header) (i : ℕ) (x : Node) → h .nodes .bump ≤ g .nodes .bump → FreeNode h i x → FreeNode g i x
+free-node-higher h g i x l f =
+    record {
+      no-value = f .no-value;
+      no-right = f .no-right;
+      link = link-higher l (f .link);
+      parent-used = omega (arith, f .parent-used);
+      first-parent = f .first-parent;
+      prefix-most = f .prefix-most;
+    }
+
+free-value-higher : (h g : Header) (j : ℕ) (r : ValueRecord) → h .values .bump ≤ g .values .bump → FreeValue h j r
+    → FreeValue g j r
+free-value-higher h g j r l f =
+    record { link = link-higher l (f .link); zero1 = f .zero1; zero2 = f .zero2; zero3 = f .zero3 }
+
+-- the header of a map that is not empty
+abbrev pub topped : Counts → Counts → Header
+topped nodes values = record { root = record { 0 = 1 }; nodes = nodes; values = values }
+
+module _ {m n : ℕ} {ws vs xs ys : List ℕ} {c d : Counts} {f : ℕ → Node → Node} {g : ℕ → ValueRecord → ValueRecord}
+    {top : Header → Header} (a : Accepted m n ws)
+    (s : Stored m n (c .bump) (d .bump) ws vs f g top) (header : headerOf n vs ≡ topped c d)
+    (nodes : Part c n (FreeNodeOf n ws) (nextNodeOf ws) xs) (nodes-same : All (λ y. nodeOf vs y ≡ nodeOf ws y) xs)
+    (more : headerOf n ws .nodes .bump ≤ c .bump)
+    (values : Part d m (FreeValueOf n ws) (nextValueOf n ws) ys)
+    (values-same : All (λ y. valueRecordOf n vs y ≡ valueRecordOf n ws y) ys)
+    (more-values : headerOf n ws .values .bump ≤ d .bump)
+    (some-size : 1 ≤ d .size) (size-most : d .size ≤ m) (node-size : c .size ≡ 2 * d .size - 1) (t : Tree)
+    (held : HoldsMap (topped c d) vs (some t)) (ordered : Ordered t)
+    (different : Numbered (entries t)) (live : All (λ e. Live (valueRecordOf n vs (e .1))) (entries t)) where
+  rules : HeaderRules m n (topped c d)
+  rules =
+      record {
+        size-most = size-most;
+        node-size = node-size;
+        root-none = λ e. absurd (omega arith);
+        root-one = λ e. refl;
+        empty-head = λ e. absurd (omega arith);
+        nodes = nodes .rules;
+        values = values .rules;
+      }
+
+  nodes-free : All (λ y. (FreeNodeOf n ws y → FreeNode (topped c d) y (nodeOf vs y)) × (nextNodeOf vs y ≡ nextNodeOf ws y)) xs
+  nodes-free =
+      all-map (λ y q. (
+        λ z. free-node-higher (headerOf n ws) (topped c d) y (nodeOf vs y) more (rw q z),
+        ap (λ (x : Node). x .left .0) q,
+      )) xs nodes-same
+
+  values-free : All (λ y. (FreeValueOf n ws y → FreeValue (topped c d) y (valueRecordOf n vs y)) × (nextValueOf n vs y ≡ nextValueOf n ws y)) ys
+  values-free =
+      all-map (λ y q. (
+        λ z. free-value-higher (headerOf n ws) (topped c d) y (valueRecordOf n vs y) more-values (rw q z),
+        ap (λ (r : ValueRecord). r .register0) q,
+      )) ys values-same
+
+  pub assembled : Accepted m n vs
   assembled =
       record {
-        shape = b .shape;
-        words = b .words;
-        header = rules;
+        shape = rw (s .kept .as-many) (a .shape);
+        words = s .small (a .words);
+        front = front-after s ∙ a .front;
+        spare = spare-after s ∙ a .spare;
+        padding = λ i l b. padding-after s i l b ∙ a .padding i l b;
+        header = rw header rules;
         tree = some t;
-        holds = held;
+        holds = rw header held;
         ordered = ordered;
         different = different;
         live = live;
         free-nodes = xs;
-        node-chain = b .nodes .chain;
-        node-count = b .nodes .count;
+        node-chain = rw header (chain-kept (FreeNodeOf n ws) _ (nextNodeOf ws) _ _ _ xs nodes-free (nodes .chain));
+        node-count = rw header (nodes .count);
         free-values = ys;
-        value-chain = b .values .chain;
-        value-count = b .values .count;
-        nodes-unused = b .nodes-unused;
-        values-unused = b .values-unused;
+        value-chain = rw header (chain-kept (FreeValueOf n ws) _ (nextValueOf n ws) _ _ _ ys values-free (values .chain));
+        value-count = rw header (values .count);
+        nodes-unused = rw header (nodes-unused-after s more (a .nodes-unused));
+        values-unused = rw header (values-unused-after s more-values (a .values-unused));
       }
 
   pub assembled-tree : assembled .tree ≡ some t
   unfolding assembled
   assembled-tree = refl
-
--- ---- the free records of an image
-
-module _ {m n : ℕ} {ws xs ys : List ℕ} (b : Arenas m n ws xs ys) where
-  pub free-nodes : All (FreeNodeOf n ws) xs
-  free-nodes = all-map (λ y k. k .2) xs (chain-range _ _ _ _ xs (b .nodes .chain))
-
-  -- a used node is not the next one to take
-  pub not-next : (y : ℕ) → Used (headerOf n ws .nodes .bump) xs y → y ≢ headerOf n ws .nodes .head
-  not-next y u = used-other n (headerOf n ws .nodes) (FreeNodeOf n ws) (nextNodeOf ws) xs (b .nodes) y u
-
-  -- nor is it the next one to take
-  pub entries-other : (es : List (Key × ℕ)) → All (λ e. (1 ≤ e .1) × (e .1 < headerOf n ws .values .bump)) es → All (λ e. Live (valueRecordOf n ws (e .1))) es
-      → All (λ e. headerOf n ws .values .head ≢ e .1) es
-  entries-other [] r l = tt
-  entries-other (e ∷ es) r l = ((λ q. used-other m (headerOf n ws .values) (FreeValueOf n ws) (nextValueOf n ws) ys (b .values) (e .1) used (sym q)), entries-other es (r .1) (l .1))
-    where
-      used : Used (headerOf n ws .values .bump) ys (e .1)
-      used =
-          record {
-            low = r .0 .0;
-            high = r .0 .1;
-            unlisted = all-map (λ y k q. live-not-free (headerOf n ws) y (valueRecordOf n ws y) (subst (λ (z : ℕ). Live (valueRecordOf n ws z)) (sym q) (l .0)) (k .2)) ys (chain-range _ _ _ _ ys (b .values .chain));
-          }
-
-  pub tree-other : (parent low : ℕ) (t : Tree) → Holds (headerOf n ws) ws parent low t → All (λ e. Live (valueRecordOf n ws (e .1))) (entries t) → All (λ e. headerOf n ws .values .head ≢ e .1) (entries t)
-  tree-other parent low t k l = entries-other (entries t) (entries-used (headerOf n ws) ws parent low t k) l
-
--- ---- a node of the tree and its children
-
-pub record Kids (bump : ℕ) (ws xs : List ℕ) (x : Tree) : Type 0 where
-  pub same-key : nodeOf ws (top x) .key ≡ keyOf x
-  pub left-named : Named bump xs (nodeOf ws (top x) .left .0)
-  pub right-named : Named bump xs (nodeOf ws (top x) .right .0)
-  pub off-left : top x ≢ nodeOf ws (top x) .left .0
-  pub off-right : top x ≢ nodeOf ws (top x) .right .0
-  pub children : (y : ℕ) → Child y x → ((y ≡ nodeOf ws (top x) .left .0) ⊎ (y ≡ nodeOf ws (top x) .right .0)) × (nodeOf ws (top x) .left .0 ≢ nodeOf ws (top x) .right .0) × Used bump xs y
-  pub left-child : (y : ℕ) → 1 ≤ y → y ≡ nodeOf ws (top x) .left .0 → Child y x
-  pub right-child : (y : ℕ) → 1 ≤ y → y ≡ nodeOf ws (top x) .right .0 → Child y x
-
-pub kids-of : (h : Header) (ws xs : List ℕ) (parent low : ℕ) (x : Tree) → All (λ z. FreeNode h z (nodeOf ws z)) xs → Holds h ws parent low x → Kids (h .nodes .bump) ws xs x
-unfolding Holds
-kids-of h ws xs parent low (leaf i a w) free k =
-    let left : nodeOf ws i .left .0 ≡ 0 = ap (λ (z : Node). z .left .0) (k .here) in
-    let right : nodeOf ws i .right .0 ≡ 0 = ap (λ (z : Node). z .right .0) (k .here) in
-    record {
-      same-key = ap (λ (z : Node). z .key) (k .here);
-      left-named = inl left;
-      right-named = inl right;
-      off-left = λ e. omega (arith, k .index-some);
-      off-right = λ e. omega (arith, k .index-some);
-      children = λ y q. absurd q;
-      left-child = λ y l e. absurd (omega arith);
-      right-child = λ y l e. absurd (omega arith);
-    }
-kids-of h ws xs parent low (inner i a p l r) free k =
-    record {
-      same-key = ap (λ (z : Node). z .key) (k .here);
-      left-named = inr (subst (Used (h .nodes .bump) xs) (sym left) used-left);
-      right-named = inr (subst (Used (h .nodes .bump) xs) (sym right) used-right);
-      off-left = λ e. apart .0 (subst (λ (z : ℕ). In z l) (sym (e ∙ left)) (in-top l));
-      off-right = λ e. apart .1 (subst (λ (z : ℕ). In z r) (sym (e ∙ right)) (in-top r));
-      children = child;
-      left-child = λ y s e. inl (e ∙ left);
-      right-child = λ y s e. inr (e ∙ right);
-    }
-  where
-    apart : Once h ws (inner i a p l r)
-    apart = once h ws parent low (inner i a p l r) k
-
-    left : nodeOf ws i .left .0 ≡ top l
-    left = ap (λ (z : Node). z .left .0) (k .here)
-
-    right : nodeOf ws i .right .0 ≡ top r
-    right = ap (λ (z : Node). z .right .0) (k .here)
-
-    used-left : Used (h .nodes .bump) xs (top l)
-    used-left = in-used h ws xs i (p + 1) l (top l) free (k .on-left) (in-top l)
-
-    used-right : Used (h .nodes .bump) xs (top r)
-    used-right = in-used h ws xs i (p + 1) r (top r) free (k .on-right) (in-top r)
-
-    two : nodeOf ws i .left .0 ≢ nodeOf ws i .right .0
-    two e = k .two (sym left ∙ e ∙ right)
-
-    child : (y : ℕ) → (y ≡ top l) ⊎ (y ≡ top r) → ((y ≡ nodeOf ws i .left .0) ⊎ (y ≡ nodeOf ws i .right .0)) × (nodeOf ws i .left .0 ≢ nodeOf ws i .right .0) × Used (h .nodes .bump) xs y
-    child y (inl e) = (inl (e ∙ sym left), two, subst (Used (h .nodes .bump) xs) (sym e) used-left)
-    child y (inr e) = (inr (e ∙ sym right), two, subst (Used (h .nodes .bump) xs) (sym e) used-right)

@@ -1,165 +1,149 @@
--- The new leaf: its node is taken and holds the key, its value record is taken and holds the value, and the node names the record (`add_leaf`).
-use mathlib.Core.Path.{_≡_, refl, sym, ap, subst, _∙_}
-use mathlib.Core.List.{List, [], _∷_}
-use mathlib.Core.Logic.{_≢_, inr}
-use Prim.Native.Nat.{ℕ, _+_, _^_, _≤_, _<_}
+-- The records of a new leaf are taken, its node and its value record, and in a split a second node: the arenas
+-- afterwards, and what is stored so far.
+use mathlib.Core.Path.{_≡_, refl, sym, ap, _∙_}
+use mathlib.Core.List.{List}
+use mathlib.Core.Logic.{_≢_}
+use Prim.Native.Nat.{ℕ, _+_, _≤_, _<_}
 use native.Mathlib.Omega.{arith}
-use lib.ListN.{length}
-use Rattle.keys.specs.declared.Key.{Key}
-use Rattle.keys.specs.Number.{Fits}
+use borrow.Author.Tests.{eq-eqb, ne-eqb}
 use Rattle.node_allocator.specs.declared.Arena.the-variants.{Nodes, Values}
 use Rattle.node_allocator.specs.declared.Counts.{Counts}
-use Rattle.node_allocator.specs.declared.Field.the-variants as field
-use Rattle.node_allocator.specs.Steps.{addIndex, addImage}
+use Rattle.node_allocator.specs.declared.Register.the-variants.{Left}
+use Rattle.node_allocator.specs.Layout.{capacityOf}
+use Rattle.node_allocator.specs.Steps.{addCounts, addImage}
 use Rattle.records.specs.declared.Header.{Header}
 use Rattle.records.specs.declared.Node.{Node}
 use Rattle.records.specs.declared.Value.{Value}
 use Rattle.records.specs.declared.ValueRecord.{ValueRecord}
-use Rattle.records.specs.Records.{headerOf, nodeOf, valueRecordOf}
-use Rattle.insert.specs.Steps.{contentFrom, leafTaken, valueTaken, leafAdded}
+use Rattle.records.specs.Layout.{mostNodes}
+use Rattle.records.specs.Records.{headerOf, valueRecordOf}
+use Rattle.records.specs.Writes.{liveRecord}
+use Rattle.insert.specs.Steps.{leafTaken}
+use Rattle.lists.specs.Lists.{All, all-both}
 use Rattle.lists.specs.Machine.{FitsValue}
-use Rattle.record_views.specs.Nodes.{withField, withContent, changed, changed-there, changed-other}
-use Rattle.accepted.specs.Rules.{Live, leafNode}
-use Rattle.accepted_insert.specs.Arenas.{behind, addedTo, Used, used-still, bump-added, FreeNodeOf, nextNodeOf, FreeValueOf, nextValueOf, Arenas}
-use Rattle.accepted_insert.specs.Stored.{Step, used-after, register-step, content-step}
-use Rattle.accepted_insert.specs.Added.{TopKept, NodeAdded, node-add}
-use Rattle.accepted_insert.specs.Valued.{ValueTaken, value-take}
+use Rattle.record_views.specs.Nodes.{changed, withRegister}
+use Rattle.record_views.specs.Values.{withLink}
+use Rattle.record_views.specs.Small.{FitsCounts, live-fits}
+use Rattle.record_views.specs.Stored.{Bounds, Stored, stays, add-node, add-value, store-value, withNodes, withValues}
+use Rattle.accepted.specs.Rules.{Live, live-record}
+use Rattle.accepted.specs.Accepted.{Accepted}
+use Rattle.accepted.specs.Held.{list-used}
+use Rattle.accepted.specs.Frame.{chain-range}
+use Rattle.accepted.specs.Apart.{live-not-free}
+use Rattle.trees.specs.Map.{listOf}
+use Rattle.accepted_insert.specs.Arenas.{Part, behind, takenFrom, bump-most, size-taken, head-most, head-used, not-head, behind-other, part-taken, counts-taken, FreeNodeOf, nextNodeOf, FreeValueOf, nextValueOf, node-part, value-part, node-link, value-link}
+use Rattle.accepted_insert.specs.Planned.{node-room}
 
--- ---- the counts
+pub part-fits : {c : Counts} {limit : ℕ} {Free : ℕ → Type 0} {next : ℕ → ℕ} {xs : List ℕ} → Part c limit Free next xs
+    → limit ≤ mostNodes → FitsCounts c
+part-fits p few =
+    let bump = p .rules .bump-most in
+    let head = p .rules .head-most in
+    record { bump-fits = omega arith; head-fits = omega arith }
 
-pub size-added : (next : ℕ → ℕ) (c : Counts) (xs : List ℕ) → addedTo next c xs .size ≡ c .size + 1
-size-added next c [] = refl
-size-added next c (x ∷ xs) = refl
+module _ {m n : ℕ} {ws : List ℕ} (a : Accepted m n ws) where
+  abbrev h : Header
+  h = headerOf n ws
 
-pub top-then : {n : ℕ} {ws vs us : List ℕ} → TopKept n us vs → TopKept n vs ws → TopKept n us ws
-top-then s t = record { padding0 = s .padding0 ∙ t .padding0; root = s .root ∙ t .root; padding1 = s .padding1 ∙ t .padding1 }
+  abbrev pub new : ℕ
+  new = h .nodes .head
 
-pub top-same : {n : ℕ} {ws vs : List ℕ} → headerOf n vs ≡ headerOf n ws → TopKept n vs ws
-top-same e = record { padding0 = ap (λ (h : Header). h .padding0) e; root = ap (λ (h : Header). h .root .0) e; padding1 = ap (λ (h : Header). h .padding1) e }
+  abbrev pub cell : ℕ
+  cell = h .values .head
 
--- ---- what is so afterwards
+  -- the counts once one node is taken, two nodes, and a value record
+  abbrev pub nodes1 : Counts
+  nodes1 = takenFrom (nextNodeOf ws) (h .nodes) (a .free-nodes)
 
-pub record LeafAdded (m n : ℕ) (ws vs xs ys : List ℕ) (key : Key) (v : Value) : Type 0 where
-  pub index : addIndex (Nodes n) ws ≡ headerOf n ws .nodes .head
-  pub as-long : length vs ≡ length ws
-  pub node-size : headerOf n vs .nodes .size ≡ headerOf n ws .nodes .size + 1
-  pub value-size : headerOf n vs .values .size ≡ headerOf n ws .values .size + 1
-  pub node-bump : headerOf n ws .nodes .bump ≤ headerOf n vs .nodes .bump
-  pub value-bump : headerOf n ws .values .bump ≤ headerOf n vs .values .bump
-  pub top : TopKept n vs ws
-  pub leaf : nodeOf vs (headerOf n ws .nodes .head) ≡ leafNode (nodeOf vs (headerOf n ws .nodes .head) .parent .0) key (headerOf n ws .values .head)
-  pub first-parent : headerOf n ws .nodes .head ≡ 1 → nodeOf vs (headerOf n ws .nodes .head) .parent .0 ≡ 0
-  pub node : (y : ℕ) → 1 ≤ y → y ≤ n → y ≢ headerOf n ws .nodes .head → nodeOf vs y ≡ nodeOf ws y
-  pub value : (y : ℕ) → 1 ≤ y → y ≢ headerOf n ws .values .head → valueRecordOf n vs y ≡ valueRecordOf n ws y
-  pub live : Live (valueRecordOf n vs (headerOf n ws .values .head))
-  pub stored : valueRecordOf n vs (headerOf n ws .values .head) .value ≡ v
-  pub value-some : 1 ≤ headerOf n ws .values .head
-  pub value-used : headerOf n ws .values .head < headerOf n vs .values .bump
-  pub after : Arenas m n vs (behind xs) (behind ys)
-  pub used : Used (headerOf n vs .nodes .bump) (behind xs) (headerOf n ws .nodes .head)
-  pub still : (i : ℕ) → Used (headerOf n ws .nodes .bump) xs i → Used (headerOf n vs .nodes .bump) (behind xs) i
+  abbrev pub nodes2 : Counts
+  nodes2 = takenFrom (nextNodeOf ws) nodes1 (behind (a .free-nodes))
 
-module _ {m n : ℕ} {ws xs ys : List ℕ} (a : Arenas m n ws xs ys) (room : headerOf n ws .nodes .size < n) (space : headerOf n ws .values .size < m)
-    (key : Key) (fits : Fits key) (v : Value) (fits-value : FitsValue v) where
-  abbrev new : ℕ
-  new = headerOf n ws .nodes .head
+  abbrev pub values1 : Counts
+  values1 = takenFrom (nextValueOf n ws) (h .values) (a .free-values)
 
-  abbrev cell : ℕ
-  cell = headerOf n ws .values .head
+  module _ (room : headerOf n ws .values .size < m) where
+    pub node-part1 : Part nodes1 n (FreeNodeOf n ws) (nextNodeOf ws) (behind (a .free-nodes))
+    node-part1 = part-taken (a .free-nodes) (node-part a) (omega (arith, node-room a room))
 
-  -- the node is taken
-  one : NodeAdded m n ws xs ys
-  one = node-add a room
+    pub node-part2 : Part nodes2 n (FreeNodeOf n ws) (nextNodeOf ws) (behind (behind (a .free-nodes)))
+    node-part2 =
+        part-taken (behind (a .free-nodes)) node-part1
+        (omega (arith, node-room a room, size-taken (nextNodeOf ws) (h .nodes) (a .free-nodes)))
 
-  -- it holds the key
-  two : Step m n (addImage (Nodes n) ws) (leafTaken n ws key) (changed new (withContent (contentFrom key 128))) (behind xs) ys
-  unfolding leafTaken
-  two = rw (one .index) (content-step (one .after) new (one .used) (contentFrom key 128) (record { key-fits = fits; prefix-fits = omega arith; padding-fits = omega arith }))
+    pub value-part1 : Part values1 m (FreeValueOf n ws) (nextValueOf n ws) (behind (a .free-values))
+    value-part1 = part-taken (a .free-values) (value-part a) room
 
-  values-two : headerOf n (leafTaken n ws key) .values ≡ headerOf n ws .values
-  values-two = ap (λ (h : Header). h .values) (two .change .same-header) ∙ one .values
+    -- the step's own header
+    pub nodes-answered : addCounts (Nodes n) ws (h .nodes) ≡ nodes1
+    unfolding capacityOf
+    nodes-answered =
+        counts-taken (Nodes n) ws (a .free-nodes) (a .shape .most-nodes) (node-part a) (omega (arith, node-room a room))
+        (node-link ws)
 
-  -- the value record is taken and holds the value
-  three : ValueTaken m n (leafTaken n ws key) (valueTaken m n (leafTaken n ws key) v) (behind xs) ys v
-  three = value-take (two .after) (rw values-two space) v fits-value
+    -- ---- the leaf's records taken, below a bound of nodes
 
-  used-three : Used (headerOf n (valueTaken m n (leafTaken n ws key) v) .nodes .bump) (behind xs) new
-  used-three = subst (λ (c : Counts). Used (c .bump) (behind xs) new) (sym (three .nodes)) (used-after two (one .used))
+    module _ (b : ℕ) (least : nodes1 .bump ≤ b) (most : b ≤ n + 1) (v : Value) (fits : FitsValue v) where
+      bounds : Bounds m n b (values1 .bump)
+      bounds =
+          record {
+            few = a .shape .most-nodes;
+            some = omega (arith, node-part1 .rules .bump-some);
+            most = most;
+            few-values = a .shape .most;
+            some-values = value-part1 .rules .bump-some;
+            most-values = value-part1 .rules .bump-most;
+          }
 
-  cell-is : headerOf n (leafTaken n ws key) .values .head ≡ cell
-  cell-is = ap (λ (c : Counts). c .head) values-two
+      node-stored : Stored m n b (values1 .bump) ws (addImage (Nodes n) ws (h .nodes)) (changed new (withRegister Left 0))
+          (λ y r. r) (withNodes (addCounts (Nodes n) ws (h .nodes)))
+      node-stored =
+          add-node (stays bounds ws (omega (arith, a .shape .words))) (h .nodes) (a .header .nodes .head-some)
+          (omega (arith, head-used (a .free-nodes) (node-part a))) (part-fits (node-part a) (a .shape .most-nodes))
 
-  cell-index : addIndex (Values n m) (leafTaken n ws key) ≡ cell
-  cell-index = three .index ∙ cell-is
+      values-answered : addCounts (Values n m) (addImage (Nodes n) ws (h .nodes)) (h .values) ≡ values1
+      unfolding capacityOf
+      values-answered =
+          counts-taken (Values n m) (addImage (Nodes n) ws (h .nodes)) (a .free-values) (omega (arith, a .shape .most))
+          (value-part a) room
+          (λ named. value-link (addImage (Nodes n) ws (h .nodes)) named
+          ∙ ap (λ (r : ValueRecord). r .register0) (node-stored .value cell (named .low)))
 
-  cell-small : cell < 2 ^ 32
-  cell-small = omega (arith, a .values .rules .head-most, a .values .rules .bump-most, a .shape .most)
+      pub leaf-stored : Stored m n b (values1 .bump) ws (leafTaken m n ws h v) (changed new (withRegister Left 0))
+          (λ y r. changed cell (λ w. liveRecord new v) y (changed cell (withLink 0) y r))
+          (λ t. withValues values1 (withNodes nodes1 t))
+      unfolding leafTaken
+      leaf-stored =
+          let low = a .header .values .head-some in
+          let below : cell < values1 .bump = head-used (a .free-values) (value-part a) in
+          let fit = part-fits (value-part a) (omega (arith, a .shape .most)) in
+          let taken = add-value node-stored (h .values) low below fit in
+          rw (nodes-answered, values-answered) at (store-value taken cell (liveRecord new v) below (live-fits new fits))
 
-  -- the node names the record
-  four : Step m n (valueTaken m n (leafTaken n ws key) v) (leafAdded m n ws key v) (changed new (withField field.Value cell)) (behind xs) (behind ys)
-  unfolding leafAdded
-  four = rw (one .index, cell-index) (register-step (three .after) new (inr used-three) cell field.Value cell-small)
+    -- ---- the value record that is taken is no entry's
 
-  node-four : (y : ℕ) → 1 ≤ y → y ≤ n → nodeOf (leafAdded m n ws key v) y ≡ changed new (withField field.Value cell) y (changed new (withContent (contentFrom key 128)) y (nodeOf (addImage (Nodes n) ws) y))
-  node-four y l h = four .change .node y l ∙ ap (changed new (withField field.Value cell) y) (three .node y l h ∙ two .change .node y l)
+    pub cell-other : All (λ e. cell ≢ e .1) (listOf (a .tree))
+    cell-other =
+        all-both (λ e r l q. other (e .1) (r .1) l (sym q)) (listOf (a .tree)) (list-used h ws (a .tree) (a .holds)) (a .live)
+      where
+        other : (j : ℕ) → j < h .values .bump → Live (valueRecordOf n ws j) → j ≢ cell
+        other j l live = not-head (a .free-values) (value-part a) j l (live-not-free h j (valueRecordOf n ws j) live)
 
-  new-high : new ≤ n
-  new-high = omega (arith, one .used .high, one .after .nodes .rules .bump-most)
+    -- ---- the value records of an image in which that one is stored, and no other
 
-  leaf-record : nodeOf (leafAdded m n ws key v) new ≡ leafNode (nodeOf (addImage (Nodes n) ws) new .parent .0) key cell
-  leaf-record =
-      node-four new (one .used .low) new-high
-      ∙ changed-there new (withField field.Value cell) (changed new (withContent (contentFrom key 128)) new (nodeOf (addImage (Nodes n) ws) new))
-      ∙ ap (withField field.Value cell) (changed-there new (withContent (contentFrom key 128)) (nodeOf (addImage (Nodes n) ws) new))
-      ∙ λ ι. record {
-        left = record { 0 = one .bare .left ι };
-        right = record { 0 = one .bare .right ι };
-        parent = nodeOf (addImage (Nodes n) ws) new .parent;
-        value = record { 0 = cell };
-        key = key;
-        prefix = 128;
-        padding = 0;
-      }
+    module _ {b c : ℕ} {vs : List ℕ} {f : ℕ → Node → Node} {t : Header → Header} (v : Value)
+        (s : Stored m n b c ws vs f (λ y r. changed cell (λ w. liveRecord new v) y (changed cell (withLink 0) y r)) t)
+      where
+        pub cell-after : valueRecordOf n vs cell ≡ liveRecord new v
+        cell-after = s .value cell (a .header .values .head-some) ∙ rw (eq-eqb cell cell refl)
 
-  parent-same : nodeOf (leafAdded m n ws key v) new .parent .0 ≡ nodeOf (addImage (Nodes n) ws) new .parent .0
-  parent-same = ap (λ (x : Node). x .parent .0) leaf-record
+        pub record-after : (y : ℕ) → 1 ≤ y → y ≢ cell → valueRecordOf n vs y ≡ valueRecordOf n ws y
+        record-after y l d = s .value y l ∙ rw (ne-eqb y cell d)
 
-  node-other : (y : ℕ) → 1 ≤ y → y ≤ n → y ≢ new → nodeOf (leafAdded m n ws key v) y ≡ nodeOf ws y
-  node-other y l h d =
-      node-four y l h
-      ∙ changed-other new (withField field.Value cell) y (changed new (withContent (contentFrom key 128)) y (nodeOf (addImage (Nodes n) ws) y)) d
-      ∙ changed-other new (withContent (contentFrom key 128)) y (nodeOf (addImage (Nodes n) ws) y) d
-      ∙ one .node y l
-      ∙ changed-other new (withField field.Left 0) y (nodeOf ws y) d
+        pub free-after : All (λ y. valueRecordOf n vs y ≡ valueRecordOf n ws y) (behind (a .free-values))
+        free-after =
+            all-both (λ y r d. record-after y (r .0) d) (behind (a .free-values))
+            (chain-range _ _ _ _ (behind (a .free-values)) (value-part1 .chain))
+            (behind-other (a .free-values) (value-part a))
 
-  nodes-four : headerOf n (leafAdded m n ws key v) .nodes ≡ addedTo (nextNodeOf ws) (headerOf n ws .nodes) xs
-  nodes-four = ap (λ (h : Header). h .nodes) (four .change .same-header) ∙ three .nodes ∙ ap (λ (h : Header). h .nodes) (two .change .same-header) ∙ one .nodes
-
-  values-four : headerOf n (leafAdded m n ws key v) .values ≡ addedTo (nextValueOf n (leafTaken n ws key)) (headerOf n ws .values) ys
-  values-four = ap (λ (h : Header). h .values) (four .change .same-header) ∙ three .values ∙ ap (λ (c : Counts). addedTo (nextValueOf n (leafTaken n ws key)) c ys) values-two
-
-  pub leaf-add : LeafAdded m n ws (leafAdded m n ws key v) xs ys key v
-  leaf-add =
-      record {
-        index = one .index;
-        as-long = four .change .as-long ∙ three .as-long ∙ two .change .as-long ∙ one .as-long;
-        node-size = ap (λ (c : Counts). c .size) nodes-four ∙ size-added (nextNodeOf ws) (headerOf n ws .nodes) xs;
-        value-size = ap (λ (c : Counts). c .size) values-four ∙ size-added (nextValueOf n (leafTaken n ws key)) (headerOf n ws .values) ys;
-        node-bump = rw nodes-four (bump-added n (headerOf n ws .nodes) (FreeNodeOf n ws) (nextNodeOf ws) xs);
-        value-bump = rw values-four (bump-added m (headerOf n ws .values) (FreeValueOf n ws) (nextValueOf n (leafTaken n ws key)) ys);
-        top = top-then (top-same (four .change .same-header)) (top-then (three .top) (top-then (top-same (two .change .same-header)) (one .top)));
-        leaf = leaf-record ∙ ap (λ (p : ℕ). leafNode p key cell) (sym parent-same);
-        first-parent = λ e. parent-same ∙ one .bare .first-parent e;
-        node = node-other;
-        value = λ y l d. four .change .value y l ∙ three .other y l (λ e. d (e ∙ cell-is)) ∙ two .change .value y l ∙ one .value y l;
-        live = subst Live (sym (four .change .value cell cell-some)) (subst (λ (j : ℕ). Live (valueRecordOf n (valueTaken m n (leafTaken n ws key) v) j)) cell-is (three .live));
-        stored = ap (λ (r : ValueRecord). r .value) (four .change .value cell cell-some) ∙ subst (λ (j : ℕ). valueRecordOf n (valueTaken m n (leafTaken n ws key) v) j .value ≡ v) cell-is (three .stored);
-        value-some = cell-some;
-        value-used = rw (four .change .same-header) (subst (λ (j : ℕ). j < headerOf n (valueTaken m n (leafTaken n ws key) v) .values .bump) cell-is (three .used));
-        after = four .after;
-        used = used-after four used-three;
-        still = λ i u. subst (λ (c : Counts). Used (c .bump) (behind xs) i) (sym nodes-four) (used-still n (headerOf n ws .nodes) (FreeNodeOf n ws) (nextNodeOf ws) xs i u);
-      }
-    where
-      cell-some : 1 ≤ cell
-      cell-some = subst (λ (j : ℕ). 1 ≤ j) cell-is (three .some)
+        pub live-after : Live (valueRecordOf n vs cell)
+        live-after = rw cell-after (live-record new v)

@@ -1,72 +1,97 @@
--- The records that insert takes pass their tests: each is the first of its free chain, or the one at the bump, whose words are 0.
+-- The records that insert takes pass their tests: each is the first of its free chain, or the one at the bump, whose
+-- words are 0.
 use mathlib.Core.Path.{_≡_, sym, subst}
 use mathlib.Core.List.{List, [], _∷_}
-use mathlib.Core.Bool.{true}
-use Prim.Native.Nat.{ℕ, _+_, _-_, _≤_}
+use mathlib.Core.Bool.{Bool, true, cond, _&&_}
+use Prim.Native.Nat.{ℕ, _+_, _≤_, _<_}
 use native.Mathlib.Omega.{arith}
-use lib.ListN.{length}
+use lib.Dec.{leb, ltb}
 use borrow.Author.Tests.{lt-ltb, le-ltb, le-leb, eq-eqb, ne-eqb}
 use Rattle.words.specs.Zeros.{zeros-exact}
+use Rattle.node_allocator.specs.declared.Arena.the-variants.{Nodes, Values}
 use Rattle.node_allocator.specs.Layout.{nodeAt, valueAt, recordAt, widthOf}
 use Rattle.node_allocator.specs.Steps.{neverUsed}
+use Rattle.records.specs.declared.Header.{Header}
 use Rattle.records.specs.Records.{headerOf, nodeOf, valueRecordOf}
-use Rattle.insert.specs.Plan.{takenNode, nextNode, takenValue}
+use Rattle.insert.specs.Plan.{takenNode, nextNode, takenValue, leafTests, splitTests}
 use Rattle.accepted.specs.Rules.{Chain}
+use Rattle.accepted.specs.Accepted.{Accepted}
 use Rattle.accepted.specs.Tests.{free-node-passes, free-value-passes}
-use Rattle.accepted_insert.specs.Arenas.{Part, FreeNodeOf, nextNodeOf, FreeValueOf, nextValueOf, Arenas}
+use Rattle.accepted_insert.specs.Arenas.{Part, head-most, part-taken, FreeNodeOf, nextNodeOf, FreeValueOf, node-part, value-part}
 
-module _ {m n : ℕ} {ws xs ys : List ℕ} (a : Arenas m n ws xs ys) where
-  -- a node that was never used
-  unused-node : (i : ℕ) → headerOf n ws .nodes .bump ≤ i → i ≤ n → takenNode n (headerOf n ws) ws i ≡ true
-  unfolding takenNode neverUsed recordAt widthOf
-  unused-node i l h =
-      rw (le-ltb i (headerOf n ws .nodes .bump) l, le-leb i n h)
-      (zeros-exact ws (nodeAt i) 12 .1 (λ k p q. a .nodes-unused k (omega arith) (omega (arith, a .nodes .rules .bump-some))))
+-- where a chain begins: at a free record below the bump, or at the bump
+chain-passes : (Free : ℕ → Type 0) (next : ℕ → ℕ) (bump limit : ℕ) (free unused : ℕ → Bool)
+    → ((i : ℕ) → 1 ≤ i → i < bump → Free i → free i ≡ true)
+    → ((i : ℕ) → bump ≤ i → i ≤ limit → unused i ≡ true) → (i : ℕ) (us : List ℕ) → Chain Free next bump i us → i ≤ limit
+    → cond (ltb i bump) (free i) (leb i limit && unused i) ≡ true
+unfolding Chain
+chain-passes Free next bump limit free unused f g i [] c most =
+    rw (le-ltb i bump (omega (arith, c)), le-leb i limit most) (g i (omega (arith, c)) most)
+chain-passes Free next bump limit free unused f g i (x ∷ us) c most =
+    rw (lt-ltb i bump (omega (arith, c .here, c .used)))
+    (f i (omega (arith, c .here, c .some)) (omega (arith, c .here, c .used)) (subst Free (sym (c .here)) (c .free)))
 
-  -- the first of a chain
-  chain-node : (i : ℕ) (us : List ℕ) → Chain (FreeNodeOf n ws) (nextNodeOf ws) (headerOf n ws .nodes .bump) i us → i ≤ n → takenNode n (headerOf n ws) ws i ≡ true
-  unfolding Chain takenNode
-  chain-node i [] c h = unused-node i (omega (arith, c)) h
-  chain-node i (x ∷ us) c h =
-      rw (lt-ltb i (headerOf n ws .nodes .bump) (omega (arith, c .here, c .used)))
-      (free-node-passes (headerOf n ws) i (nodeOf ws i) (subst (FreeNodeOf n ws) (sym (c .here)) (c .free)))
+module _ {m n : ℕ} {ws : List ℕ} (a : Accepted m n ws) where
+  abbrev h : Header
+  h = headerOf n ws
 
-  -- the head's
-  pub head-taken : headerOf n ws .nodes .head ≤ n → takenNode n (headerOf n ws) ws (headerOf n ws .nodes .head) ≡ true
-  head-taken h = chain-node (headerOf n ws .nodes .head) xs (a .nodes .chain) h
+  -- ---- a node
 
-  -- and the next one's
-  next-of : (us : List ℕ) → Part (headerOf n ws .nodes) n (FreeNodeOf n ws) (nextNodeOf ws) us → headerOf n ws .nodes .size + 2 ≤ n
-      → takenNode n (headerOf n ws) ws (nextNode (headerOf n ws) ws (headerOf n ws .nodes .head)) ≡ true
-  unfolding Chain nextNode
-  next-of [] p room =
-      rw (eq-eqb (headerOf n ws .nodes .head) (headerOf n ws .nodes .bump) (p .chain))
-      (unused-node (headerOf n ws .nodes .head + 1) (omega (arith, p .chain)) (omega (arith, p .chain, p .count, p .rules .size-most, p .rules .bump-some)))
-  next-of (x ∷ us) p room =
-      rw (ne-eqb (headerOf n ws .nodes .head) (headerOf n ws .nodes .bump) (λ e. omega (arith, p .chain .here, p .chain .used)))
-      (subst (λ (i : ℕ). takenNode n (headerOf n ws) ws (nextNodeOf ws i) ≡ true) (sym (p .chain .here)) (chain-node (nextNodeOf ws x) us (p .chain .rest) (inside us (p .chain .rest) (p .count))))
-    where
-      inside : (vs : List ℕ) → Chain (FreeNodeOf n ws) (nextNodeOf ws) (headerOf n ws .nodes .bump) (nextNodeOf ws x) vs
-          → length (x ∷ vs) ≡ headerOf n ws .nodes .bump - 1 - headerOf n ws .nodes .size → nextNodeOf ws x ≤ n
-      inside [] c e = omega (arith, c)
-      inside (y ∷ vs) c e = omega (arith, c .here, c .used, p .rules .bump-most)
+  unused-node : (i : ℕ) → h .nodes .bump ≤ i → i ≤ n → neverUsed (Nodes n) ws i ≡ true
+  unfolding neverUsed recordAt widthOf
+  unused-node i l most =
+      zeros-exact ws (nodeAt i) 12 .1
+      (λ k p q. a .nodes-unused k (omega arith) (omega (arith, a .header .nodes .bump-some)))
 
-  pub next-taken : headerOf n ws .nodes .size + 2 ≤ n → takenNode n (headerOf n ws) ws (nextNode (headerOf n ws) ws (headerOf n ws .nodes .head)) ≡ true
-  next-taken room = next-of xs (a .nodes) room
+  node-taken : (i : ℕ) (us : List ℕ) → Chain (FreeNodeOf n ws) (nextNodeOf ws) (h .nodes .bump) i us → i ≤ n
+      → takenNode n h ws i ≡ true
+  unfolding takenNode
+  node-taken =
+      chain-passes (FreeNodeOf n ws) (nextNodeOf ws) (h .nodes .bump) n _ _
+      (λ i l b. free-node-passes h ws i (nodeOf ws i) (a .padding i l (omega (arith, a .header .nodes .bump-most))))
+      unused-node
 
-  unused-value : (j : ℕ) → headerOf n ws .values .bump ≤ j → j ≤ m → takenValue m n (headerOf n ws) ws j ≡ true
-  unfolding takenValue neverUsed recordAt widthOf
-  unused-value j l h =
-      rw (le-ltb j (headerOf n ws .values .bump) l, le-leb j m h)
-      (zeros-exact ws (valueAt n j) 8 .1 (λ k p q. a .values-unused k (omega arith) (omega (arith, a .values .rules .bump-some))))
+  next-taken : (us : List ℕ) → Part (h .nodes) n (FreeNodeOf n ws) (nextNodeOf ws) us → h .nodes .size + 2 ≤ n
+      → takenNode n h ws (nextNode h ws (h .nodes .head)) ≡ true
+  unfolding Chain nextNode takenNode
+  next-taken [] p room =
+      let next : h .nodes .head + 1 ≤ n =
+      omega (arith, p .chain, head-most [] (part-taken [] p (omega arith)) (omega arith)) in
+      rw (
+        eq-eqb (h .nodes .head) (h .nodes .bump) (p .chain),
+        le-ltb (h .nodes .head + 1) (h .nodes .bump) (omega (arith, p .chain)),
+        le-leb (h .nodes .head + 1) n next,
+      )
+      (unused-node (h .nodes .head + 1) (omega (arith, p .chain)) next)
+  next-taken (x ∷ us) p room =
+      rw (ne-eqb (h .nodes .head) (h .nodes .bump) (λ e. omega (arith, p .chain .here, p .chain .used)))
+      (subst (λ (y : ℕ). takenNode n h ws (nextNodeOf ws y) ≡ true) (sym (p .chain .here))
+      (node-taken (nextNodeOf ws x) us (p .chain .rest)
+      (head-most us (part-taken (x ∷ us) p (omega arith)) (omega arith))))
 
-  chain-value : (j : ℕ) (us : List ℕ) → Chain (FreeValueOf n ws) (nextValueOf n ws) (headerOf n ws .values .bump) j us → j ≤ m → takenValue m n (headerOf n ws) ws j ≡ true
-  unfolding Chain takenValue
-  chain-value j [] c h = unused-value j (omega (arith, c)) h
-  chain-value j (x ∷ us) c h =
-      rw (lt-ltb j (headerOf n ws .values .bump) (omega (arith, c .here, c .used)))
-      (free-value-passes (headerOf n ws) j (valueRecordOf n ws j) (subst (FreeValueOf n ws) (sym (c .here)) (c .free)))
+  -- ---- a value record
 
-  -- the head's value record
-  pub value-taken : headerOf n ws .values .head ≤ m → takenValue m n (headerOf n ws) ws (headerOf n ws .values .head) ≡ true
-  value-taken h = chain-value (headerOf n ws .values .head) ys (a .values .chain) h
+  unused-value : (j : ℕ) → h .values .bump ≤ j → j ≤ m → neverUsed (Values n m) ws j ≡ true
+  unfolding neverUsed recordAt widthOf
+  unused-value j l most = zeros-exact ws (valueAt n j) 8 .1 (λ k p q. a .values-unused k (omega arith) (omega arith))
+
+  value-taken : h .values .head ≤ m → takenValue m n h ws (h .values .head) ≡ true
+  unfolding takenValue
+  value-taken most =
+      chain-passes (FreeValueOf n ws) _ (h .values .bump) m _ _ (λ j l b. free-value-passes h j (valueRecordOf n ws j))
+      unused-value
+      (h .values .head) (a .free-values) (a .value-chain) most
+
+  -- ---- together
+
+  pub leaf-passes : h .nodes .size < n → h .values .size < m → leafTests m n h ws ≡ true
+  unfolding leafTests
+  leaf-passes s r =
+      rw (
+        node-taken (h .nodes .head) (a .free-nodes) (a .node-chain) (head-most (a .free-nodes) (node-part a) s),
+        value-taken (head-most (a .free-values) (value-part a) r),
+      )
+
+  pub split-passes : h .nodes .size + 2 ≤ n → h .values .size < m → splitTests m n h ws ≡ true
+  unfolding splitTests
+  split-passes s r = rw (leaf-passes (omega arith) r, next-taken (a .free-nodes) (node-part a) s)

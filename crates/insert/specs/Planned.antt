@@ -36,7 +36,8 @@ module _ (m n : ℕ) (before : List ℕ) (key : Key) (p : Plan) (e : openedPlan 
   image v = rw e
 
   -- a plan that writes
-  pub planned-image : Writes p → (v : Value) (after : List ℕ) → length after ≡ length before → words after ≡ planImage m n (words before) key v p
+  pub planned-image : Writes p → (v : Value) (after : List ℕ) → length after ≡ length before
+      → words after ≡ planImage m n (words before) key v p
       → Leaves before after (placeNumber (insertOf m n (imageOf before) key)) (insertImage m n (imageOf before) key v)
   planned-image w v after long t =
       let o = plan-opened m n key p w (imageOf before) e in
@@ -50,6 +51,7 @@ module _ (m n : ℕ) (before : List ℕ) (key : Key) (r : Refusal) (e : openedPl
   unfolding planPlace
   refused-answer = planned-answer m n before key (Refused r) e
 
-  pub refused-image : (v : Value) → Leaves before before (placeNumber (insertOf m n (imageOf before) key)) (insertImage m n (imageOf before) key v)
+  pub refused-image : (v : Value)
+      → Leaves before before (placeNumber (insertOf m n (imageOf before) key)) (insertImage m n (imageOf before) key v)
   unfolding planImage
   refused-image v = left-alone (sym (image m n before key (Refused r) e v))

@@ -4,11 +4,9 @@ use mathlib.Core.Path.{_≡_, refl, sym, subst, _∙_}
 use mathlib.Core.List.{List}
 use mathlib.Core.Logic.{_≢_, _↔_, _⊎_, inl, inr}
 use mathlib.Core.Bool.{Bool, true, false, cond, _&&_}
-use Prim.Native.Nat.{ℕ, zero, suc, _≤_, _%_}
+use Prim.Native.Nat.{ℕ, zero, suc, _%_}
 use native.Mathlib.Decide.{ℕ-discrete}
-use native.Mathlib.Omega.{arith}
 use lib.ListN.{length}
-use lib.Dec.{eqb}
 use borrow.Author.Tests.{eq-eqb, ne-eqb}
 use Rattle.words.specs.Words.{Bytes}
 use Rattle.keys.specs.declared.Key.{Key}
@@ -74,20 +72,23 @@ When m n ws key (suc (suc (suc (suc k)))) = ⊥
 
 -- ---- the number that comes of each
 
-chosen : (f b : Bool) (p : Plan) → f ≡ b → placeNumber (planPlace p) ≡ 0 → placeNumber (planPlace (cond f p (Refused no.Damaged))) ≡ cond b 0 2
+chosen : (f b : Bool) (p : Plan) → f ≡ b → placeNumber (planPlace p) ≡ 0
+    → placeNumber (planPlace (cond f p (Refused no.Damaged))) ≡ cond b 0 2
 unfolding planPlace placeNumber refusalNumber
 chosen true b p t z = rw (sym t) z
 chosen false b p t z = rw (sym t)
 
 module _ (m n : ℕ) (h : Header) (ws : List ℕ) where
-  stop-number : (s : Stop) (b : Bool) → stopTests m n h ws s ≡ b → placeNumber (planPlace (stopPlan m n h ws s)) ≡ cond b 0 2
+  stop-number : (s : Stop) (b : Bool) → stopTests m n h ws s ≡ b
+      → placeNumber (planPlace (stopPlan m n h ws s)) ≡ cond b 0 2
   unfolding stopTests stopPlan planPlace placeNumber refusalNumber
   stop-number (stop.Leaf i x) b t = chosen (stopTests m n h ws (stop.Leaf i x)) b (Replace i (x .value)) t refl
   stop-number (stop.Parted i x shared) b t = chosen (stopTests m n h ws (stop.Parted i x shared)) b (Split h i x shared) t refl
   stop-number stop.Empty b t = chosen (leafTests m n h ws) b (First h) t refl
   stop-number stop.Damaged b t = rw (sym t)
 
-  tested-number : (key : Key) (b : Bool) → h .values .size ≢ m → stopTests m n h ws (findOf h ws key) ≡ b → placeNumber (planPlace (insertPlan m n h ws key)) ≡ cond b 0 2
+  tested-number : (key : Key) (b : Bool) → h .values .size ≢ m → stopTests m n h ws (findOf h ws key) ≡ b
+      → placeNumber (planPlace (insertPlan m n h ws key)) ≡ cond b 0 2
   unfolding insertPlan
   tested-number key b d t = rw (ne-eqb (h .values .size) m d) (stop-number (findOf h ws key) b t)
 
@@ -100,7 +101,8 @@ module _ (m n : ℕ) (ws : List ℕ) (key : Key) where
   unfolding insertOf
   opened-number o e = rw e
 
-  good-number : (h : Header) → openOf m n ws ≡ Good h → placeNumber (planPlace (insertPlan m n h ws key)) ≡ number m n ws key
+  good-number : (h : Header) → openOf m n ws ≡ Good h
+      → placeNumber (planPlace (insertPlan m n h ws key)) ≡ number m n ws key
   unfolding openedPlan
   good-number h e = opened-number (Good h) e
 
@@ -116,7 +118,8 @@ module _ (m n : ℕ) (ws : List ℕ) (key : Key) where
   some-number : (k : ℕ) × When m n ws key k
   some-number = go (opens m n ws)
     where
-      rest : (h : Header) → openOf m n ws ≡ Good h → Dec (h .values .size ≡ m) → (t : Bool) → stopTests m n h ws (findOf h ws key) ≡ t → (k : ℕ) × When m n ws key k
+      rest : (h : Header) → openOf m n ws ≡ Good h → Dec (h .values .size ≡ m) → (t : Bool)
+          → stopTests m n h ws (findOf h ws key) ≡ t → (k : ℕ) × When m n ws key k
       rest h o (yes d) t g = (3, record { header = h; opens = o; full = d })
       rest h o (no d) false g = (2, inr (record { header = h; opens = o; room = d; tests = g }))
       rest h o (no d) true g = (0, record { header = h; opens = o; room = d; tests = g })

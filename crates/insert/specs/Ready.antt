@@ -1,8 +1,8 @@
 -- What insert's tests and steps rely on: an opened image has room for every record, the node at the head is one, and so is the node after it where the
 -- head's passes; and a plan that writes is made in an opened image.
-use mathlib.Core.Path.{_≡_, refl, sym, subst, _∙_}
+use mathlib.Core.Path.{_≡_, refl, sym, subst}
 use mathlib.Core.List.{List}
-use mathlib.Core.Bool.{Bool, true, false, cond, _&&_}
+use mathlib.Core.Bool.{Bool, true, false, cond}
 use Prim.Native.Nat.{ℕ, _+_, _*_, _≤_, _<_}
 use native.Mathlib.Omega.{arith}
 use lib.ListN.{length}
@@ -53,7 +53,8 @@ ready m n ws h e =
     }
 
 -- the node that is taken after one that passes is never index 0
-pub next-some : (n : ℕ) (h : Header) (ws : List ℕ) (i : ℕ) → i ≤ h .nodes .bump → takenNode n h ws i ≡ true → 1 ≤ nextNode h ws i
+pub next-some : (n : ℕ) (h : Header) (ws : List ℕ) (i : ℕ) → i ≤ h .nodes .bump → takenNode n h ws i ≡ true
+    → 1 ≤ nextNode h ws i
 unfolding takenNode nextNode freeNode
 next-some n h ws i l e = go (eqb i (h .nodes .bump)) refl
   where
@@ -71,7 +72,8 @@ unfoldable pub livePlan : Plan → Plan → Live → Plan
 livePlan p q (Holds v) = p
 livePlan p q Not = q
 
-pub by-live : (n : ℕ) (ws : List ℕ) (leaf j : ℕ) (p q : Plan) → cond (liveValue n ws leaf j) p q ≡ livePlan p q (liveOf n ws leaf j)
+pub by-live : (n : ℕ) (ws : List ℕ) (leaf j : ℕ) (p q : Plan)
+    → cond (liveValue n ws leaf j) p q ≡ livePlan p q (liveOf n ws leaf j)
 unfolding livePlan liveOf
 by-live n ws leaf j p q = go (liveValue n ws leaf j)
   where
@@ -86,7 +88,8 @@ pub fork-picked : (key : Key) (shared : ℕ) (leaf copy : NodeIndex) (x : Node) 
 unfolding forkNode
 fork-picked key shared leaf copy x = go (bitOf (numberOf key) shared)
   where
-    go : (b : Bool) → cond b (innerNode (x .parent .0) key shared (copy .0) (leaf .0)) (innerNode (x .parent .0) key shared (leaf .0) (copy .0))
+    go : (b : Bool)
+        → cond b (innerNode (x .parent .0) key shared (copy .0) (leaf .0)) (innerNode (x .parent .0) key shared (leaf .0) (copy .0))
         ≡ innerNode (x .parent .0) key shared (cond b copy leaf .0) (cond b leaf copy .0)
     go true = refl
     go false = refl
@@ -109,5 +112,6 @@ module _ (m n : ℕ) (key : Key) (p : Plan) (w : Writes p) where
       go (Shut r) q t = absurd (subst Writes (sym t) w)
 
   -- so there is room for every store
-  pub plan-room : (bytes : List ℕ) → openedPlan m n (imageOf bytes) key (openOf m n (imageOf bytes)) ≡ p → 48 * n + 32 * m + 48 ≤ length bytes
+  pub plan-room : (bytes : List ℕ) → openedPlan m n (imageOf bytes) key (openOf m n (imageOf bytes)) ≡ p
+      → 48 * n + 32 * m + 48 ≤ length bytes
   plan-room bytes e = let o = plan-opened (imageOf bytes) e in omega (arith, opened-bytes m n bytes (o .0) (o .1))

@@ -27,7 +27,7 @@ ghost use lib.Dec.{leb};
 ghost use Rattle.words.specs.Words.{words};
 ghost use Rattle.node_allocator.specs.declared.Arena.the-variants.{Nodes};
 ghost use Rattle.node_allocator.specs.Steps.{neverUsed};
-ghost use Rattle.records.specs.Layout.{imageOf, imageLength};
+ghost use Rattle.records.specs.Layout.{imageOf};
 ghost use Rattle.inspection.specs.Opening.{openOf};
 ghost use Rattle.descent.specs.declared.Stop.the-variants.{Leaf, Parted, Empty};
 ghost use Rattle.insert.specs.Plan.{takenNode, nextNode, takenValue, leafTests, splitTests, stopPlan, insertPlan};
