@@ -53,11 +53,15 @@ live-tested n ws leaf j = go (liveValue n ws leaf j)
 abbrev pub joined : Bool → ℕ → ℕ → Node → Bool
 joined clean above low x = clean && eqb (x .parent .0) above && leb low (x .prefix)
 
+-- an inner node that passes
+abbrev pub asInner : Bool → ℕ → ℕ → Node → Visited
+asInner clean above low x = cond (joined clean above low x && innerForm x) (Inner x) Damaged
+
 -- a node of a used index by its kind
 unfoldable pub byKind : Header → Bool → ℕ → ℕ → Node → Visited
 byKind h clean above low x =
     cond (eqb (x .value .0) 0)
-    (cond (joined clean above low x && innerForm x) (Inner x) Damaged)
+    (asInner clean above low x)
     (cond (joined clean above low x && (ltb (x .value .0) (h .values .bump) && leafForm x)) (Leaf x) Damaged)
 
 some : (a : ℕ) → (a ≡ 0 → ⊥) → 1 ≤ a

@@ -113,7 +113,14 @@ pub fn leaf_form(x: Node) -> bool
 pub fn inner_form(x: Node) -> bool
     ensures { λ r. ⌜ r ≡ innerForm x ⌝ }
 {
-    (x.left.0 != 0) & (x.right.0 != 0) & (x.left.0 != x.right.0) & (x.prefix < 128)
+    if x.left.0 != 0 {
+        if x.right.0 != 0 {
+            if x.left.0 != x.right.0 {
+                return x.prefix < 128;
+            }
+        }
+    }
+    false
 }
 
 // A free node below the bump, whose record is `x`.

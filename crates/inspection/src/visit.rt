@@ -17,17 +17,30 @@ ghost use lib.ListN.{length};
 ghost use Rattle.words.specs.Words.{words};
 ghost use Rattle.inspection.specs.Room.{Room};
 ghost use Rattle.inspection.specs.Tests.{nodeOk, rootOk, kidsOk};
-ghost use Rattle.inspection.specs.Visit.{joined, byKind, visitOf, firstOf, liveOf, passes};
+ghost use Rattle.inspection.specs.Visit.{asInner, byKind, visitOf, firstOf, liveOf, passes};
+
+// An inner node, test after test.
+fn as_inner(clean: bool, above: NodeIndex, low: u64, x: Node) -> Visited
+    ensures { λ r. ⌜ r ≡ asInner clean (above .0) low x ⌝ }
+{
+    if clean {
+        if x.parent.0 == above.0 {
+            if low <= x.prefix {
+                if inner_form(x) {
+                    return Visited::Inner(x);
+                }
+            }
+        }
+    }
+    Visited::Damaged
+}
 
 // A node of a used index by its kind. `above` is the node that we came from (0 at the root), `low` the least prefix length that the node may have.
 fn by_kind(h: Header, clean: bool, above: NodeIndex, low: u64, x: Node) -> Visited
     ensures { λ r. ⌜ r ≡ byKind h clean (above .0) low x ⌝ }
 {
     if x.value.0 == 0 {
-        if clean & (x.parent.0 == above.0) & (low <= x.prefix) & inner_form(x) {
-            return Visited::Inner(x);
-        }
-        return Visited::Damaged;
+        return as_inner(clean, above, low, x);
     }
     if clean
         & (x.parent.0 == above.0)

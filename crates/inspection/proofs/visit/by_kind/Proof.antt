@@ -5,29 +5,24 @@ use borrow.Author.Needs.{needs}
 use Rattle.inspection.proofs.visit.by_kind.Statement.{statement}
 use Rattle.inspection.proofs.visit.by_kind.Tie as tie
 
-inner-form-requires : tie.Need-inner-form-requires
-inner-form-requires c κs = search needs
+as-inner-requires : tie.Need-as-inner-requires
+as-inner-requires c κs = search needs
 
 returns : tie.Need-returns
 unfolding byKind
-returns c = simp (eq-eqb _ _ (c .before .before .before .before .before .if1 .taken), ← c .before .inner-form .ensures, c .if2 .taken)
-
-returns-2 : tie.Need-returns-2
-unfolding byKind
-returns-2 c = simp (eq-eqb _ _ (c .before .before .before .before .before .if1 .taken), ← c .before .inner-form .ensures, c .if2 .left)
+returns c = simp (eq-eqb _ _ (c .before .if1 .taken)) (c .as-inner .ensures)
 
 leaf-form-requires : tie.Need-leaf-form-requires
 leaf-form-requires c κs = search needs
 
+returns-2 : tie.Need-returns-2
+unfolding byKind
+returns-2 c = simp (ne-eqb _ _ (c .before .before .before .before .before .before .before .if1 .left), ← c .before .leaf-form .ensures, c .if2 .taken)
+
 returns-3 : tie.Need-returns-3
 unfolding byKind
-returns-3 c = simp (ne-eqb _ _ (c .before .before .before .before .before .before .before .if1 .left), ← c .before .leaf-form .ensures, c .if3 .taken)
-
-returns-4 : tie.Need-returns-4
-unfolding byKind
-returns-4 c = simp (ne-eqb _ _ (c .before .before .before .before .before .before .before .if1 .left), ← c .before .leaf-form .ensures, c .if3 .left)
+returns-3 c = simp (ne-eqb _ _ (c .before .before .before .before .before .before .before .if1 .left), ← c .before .leaf-form .ensures, c .if2 .left)
 
 pub by-kind-spec : {M : Type 1} → statement M
 by-kind-spec =
-    tie.close
-    (tie.spec inner-form-requires returns returns-2 leaf-form-requires returns-3 returns-4)
+    tie.close (tie.spec as-inner-requires returns leaf-form-requires returns-2 returns-3)
