@@ -13,16 +13,13 @@ use Rattle.keys.specs.Number.{Fits}
 use Rattle.node_allocator.specs.declared.Register.the-variants.{Parent}
 use Rattle.records.specs.declared.Header.{Header}
 use Rattle.records.specs.declared.Node.{Node}
-use Rattle.records.specs.Records.{nodeOf, leafNode, innerNode, withParent}
-use Rattle.insert.specs.Steps.{forkNode}
-use Rattle.trees.specs.Keys.{bit}
+use Rattle.records.specs.Records.{nodeOf, leafNode, withParent}
 use Rattle.trees.specs.Tree.{Tree, leaf, inner, top}
 use Rattle.trees.specs.Nodes.{In, Child, in-top}
 use Rattle.record_views.specs.Nodes.{changed, withRegister}
 use Rattle.record_views.specs.Small.{FitsNode}
 use Rattle.accepted.specs.Rules.{Holds}
 use Rattle.accepted.specs.Held.{top-used, once}
-use Rattle.accepted.specs.Forks.{sidedNode}
 
 pub record Kids (h : Header) (ws : List ℕ) (x : Tree) : Type 0 where
   pub left-used : nodeOf ws (top x) .left .0 < h .nodes .bump
@@ -74,17 +71,6 @@ told copy y l r z (inl e) = rw (eq-eqb y l e) (go (eqb y r))
 told copy y l r z (inr e) = rw (eq-eqb y r e) (go (eqb y l))
   where
     go : (b : Bool) → withParent copy (cond b (withParent copy z) z) ≡ withParent copy z
-    go true = refl
-    go false = refl
-
--- the forked node by its side
-pub fork-sided : (key : Key) (c new copy : ℕ) (x : Node)
-    → forkNode key c new copy x ≡ sidedNode (x .parent .0) key c (bit key c) new copy
-unfolding forkNode
-fork-sided key c new copy x = go (bit key c)
-  where
-    go : (b : Bool) → cond b (innerNode (x .parent .0) key c copy new) (innerNode (x .parent .0) key c new copy)
-        ≡ sidedNode (x .parent .0) key c b new copy
     go true = refl
     go false = refl
 

@@ -23,6 +23,7 @@ use Rattle.records.specs.declared.ValueRecord.{ValueRecord}
 use Rattle.records.specs.Records.{headerOf, nodeOf, leafNode, withParent, valueRecordOf}
 use Rattle.records.specs.Writes.{liveRecord}
 use Rattle.insert.specs.Steps.{leafTaken, copyIndex, bothTaken, adopted, forkNode, forked, splitImage}
+use Rattle.insert.specs.Ready.{fork-picked}
 use Rattle.lists.specs.Lists.{All, all-both}
 use Rattle.lists.specs.Entries.{find, is-some, enter}
 use Rattle.lists.specs.Machine.{FitsValue}
@@ -48,7 +49,7 @@ use Rattle.accepted_insert.specs.Entered.{enter-new, valued-put, nodes-i
 use Rattle.accepted_insert.specs.Holding.{Busy, in-busy, SplitAt, holds-insert}
 use Rattle.accepted_insert.specs.Leaf.{part-fits, nodes1, nodes2, values1, node-part1, node-part2, value-part1, nodes-answered, leaf-stored, cell-other, cell-after, record-after, free-after, live-after}
 use Rattle.accepted_insert.specs.Grown.{topped, assembled, assembled-tree}
-use Rattle.accepted_insert.specs.Kids.{Kids, kids-of, told, fork-sided, leaf-fits}
+use Rattle.accepted_insert.specs.Kids.{Kids, kids-of, told, leaf-fits}
 
 module _ {m n : ℕ} {ws : List ℕ} (a : Accepted m n ws) (key : Key) (fits : Fits key) (v : Value)
     (fits-value : FitsValue v) (t : Tree) (is : a .tree ≡ some t) (miss : lookup key t ≡ none)
@@ -168,7 +169,7 @@ module _ {m n : ℕ} {ws : List ℕ} (a : Accepted m n ws) (key : Key) (fits : F
 
   fork-fits : FitsNode (forkNode key c new copy node)
   fork-fits =
-      rw (fork-sided key c new copy node)
+      rw (fork-picked key c new copy node)
       (record {
         left-fits = either-way (λ y. y < 2 ^ 32) (bit key c) copy new (word copy copy-used) (word new new-used);
         right-fits = either-way (λ y. y < 2 ^ 32) (bit key c) new copy (word new new-used) (word copy copy-used);
@@ -258,7 +259,7 @@ module _ {m n : ℕ} {ws : List ℕ} (a : Accepted m n ws) (key : Key) (fits : F
                   copy copy refl,
             );
         at-top = two .node (top x) (top-busy .low) (inside (top x) top-below)
-            ∙ rw (eq-eqb (top x) (top x) refl) (fork-sided key c new copy node);
+            ∙ rw (eq-eqb (top x) (top x) refl) (fork-picked key c new copy node);
         at-child = child;
         at-other = λ y b d k. kept y (b .low) (omega (arith, more, b .high)) d (busy-new y b) (busy-copy y b) k;
       }

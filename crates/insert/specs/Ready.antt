@@ -14,7 +14,6 @@ use Rattle.keys.specs.Number.{numberOf}
 use Rattle.keys.specs.Common.{bitOf}
 use Rattle.records.specs.declared.Header.{Header}
 use Rattle.records.specs.declared.Node.{Node}
-use Rattle.records.specs.declared.NodeIndex.{NodeIndex}
 use Rattle.inspection.specs.declared.Opened.{Opened}
 use Rattle.inspection.specs.declared.Opened.the-variants.{Good, Shut}
 use Rattle.records.specs.Layout.{mostNodes, imageOf, imageLength}
@@ -83,14 +82,13 @@ by-live n ws leaf j p q = go (liveValue n ws leaf j)
 
 -- ---- the forked node, each child chosen by itself
 
-pub fork-picked : (key : Key) (shared : ℕ) (leaf copy : NodeIndex) (x : Node) → forkNode key shared (leaf .0) (copy .0) x
-    ≡ innerNode (x .parent .0) key shared (cond (bitOf (numberOf key) shared) copy leaf .0) (cond (bitOf (numberOf key) shared) leaf copy .0)
+pub fork-picked : (key : Key) (shared leaf copy : ℕ) (x : Node) → forkNode key shared leaf copy x
+    ≡ innerNode (x .parent .0) key shared (cond (bitOf (numberOf key) shared) copy leaf) (cond (bitOf (numberOf key) shared) leaf copy)
 unfolding forkNode
 fork-picked key shared leaf copy x = go (bitOf (numberOf key) shared)
   where
-    go : (b : Bool)
-        → cond b (innerNode (x .parent .0) key shared (copy .0) (leaf .0)) (innerNode (x .parent .0) key shared (leaf .0) (copy .0))
-        ≡ innerNode (x .parent .0) key shared (cond b copy leaf .0) (cond b leaf copy .0)
+    go : (b : Bool) → cond b (innerNode (x .parent .0) key shared copy leaf) (innerNode (x .parent .0) key shared leaf copy)
+        ≡ innerNode (x .parent .0) key shared (cond b copy leaf) (cond b leaf copy)
     go true = refl
     go false = refl
 

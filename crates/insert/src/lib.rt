@@ -1,4 +1,5 @@
-// Insert: what is to be done is found out first, on the image as it was, and then done. A refused insert passes no writer, so that every byte stays.
+// Insert: what is to be done is found out first, on the image as it was, and then done. A refused insert passes no
+// writer, so that every byte stays.
 mod tests; // tests.rt: what insert tests
 mod steps; // steps.rt: what it writes
 
@@ -21,8 +22,8 @@ ghost use Rattle.records.specs.Numbers.{placeNumber};
 ghost use Rattle.inspection.specs.Outcome.{Leaves};
 ghost use Rattle.insert.specs.Steps.{insertOf, insertImage};
 
-// What insert is going to do, found out before any write: a first leaf; the value of an equal leaf replaced; a node split, of which the key shares so
-// many bits; or nothing. The header that was read goes along.
+// What insert is going to do, found out before any write: a first leaf; the value of an equal leaf replaced; a node split,
+// of which the key shares so many bits; or nothing. The header that was read goes along.
 pub enum Plan {
     First(Header),
     Replace(NodeIndex, ValueIndex),

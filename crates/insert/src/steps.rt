@@ -102,7 +102,7 @@ fn with_parent(parent: NodeIndex, x: Node) -> Node
 
 // The first of two nodes, or the second.
 fn pick(first: bool, a: NodeIndex, b: NodeIndex) -> NodeIndex
-    ensures { λ r. ⌜ r ≡ cond first a b ⌝ }
+    ensures { λ r. ⌜ r .0 ≡ cond first (a .0) (b .0) ⌝ }
 {
     if first {
         return a;
@@ -110,7 +110,8 @@ fn pick(first: bool, a: NodeIndex, b: NodeIndex) -> NodeIndex
     b
 }
 
-// The inner node that takes the place of `x`: the new leaf hangs on the side of the key's bit at the shared length, and the copy of `x` on the other.
+// The inner node that takes the place of `x`: the new leaf hangs on the side of the key's bit at the shared length, and
+// the copy of `x` on the other.
 fn fork_node(key: Key, shared: u64, leaf: NodeIndex, copy: NodeIndex, x: Node) -> Node
     ensures { λ r. ⌜ r ≡ forkNode key shared (leaf .0) (copy .0) x ⌝ }
 {
@@ -146,7 +147,8 @@ fn fork(
     set_node(img, n, i, fork_node(key, shared, leaf, copy, x));
 }
 
-// At node `i`, whose record is `x` and where the key parts from the map: a leaf for it, a copy of the node, and the node above both.
+// At node `i`, whose record is `x` and where the key parts from the map: a leaf for it, a copy of the node, and the node
+// above both.
 pub fn split(
     img: &mut [u8],
     m: u32,

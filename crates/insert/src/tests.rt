@@ -1,4 +1,5 @@
-// What insert tests before it writes: the records that it will take, the children of the node that it splits, the value record that it replaces. Nothing here writes.
+// What insert tests before it writes: the records that it will take, the children of the node that it splits, the value
+// record that it replaces. Nothing here writes.
 use crate::Plan;
 use descent::Stop;
 use descent::find;
