@@ -1,7 +1,7 @@
 -- What the rules of an image depend on: its header, its nodes, its value records and its unused words. What a row of stores leaves of these keeps its rules.
 use mathlib.Core.Path.{_≡_, refl, ap, subst, _∙_}
 use mathlib.Core.List.{List, [], _∷_}
-use mathlib.Core.Logic.{_≢_, inl, inr}
+use mathlib.Core.Logic.{_≢_, inl, inr, ⊎-elim}
 use mathlib.Core.Option.{some}
 use Prim.Native.Nat.{ℕ, _+_, _-_, _*_, _≤_, _<_}
 use native.Mathlib.Omega.{arith}
@@ -12,8 +12,8 @@ use Rattle.records.specs.declared.Node.{Node}
 use Rattle.records.specs.declared.ValueRecord.{ValueRecord}
 use Rattle.records.specs.Records.{headerOf, nodeOf, withParent}
 use Rattle.lists.specs.Lists.{All}
-use Rattle.trees.specs.Tree.{Tree, leaf, inner, top}
-use Rattle.trees.specs.Nodes.{In}
+use Rattle.trees.specs.Tree.{Tree, leaf, inner, top, prefixOf, relabel}
+use Rattle.trees.specs.Nodes.{In, Child, is-top}
 use Rattle.record_views.specs.Stored.{Bounds, nodes, values, Stored}
 use Rattle.accepted.specs.Rules.{Holds, Chain}
 use Rattle.accepted.specs.Accepted.{Accepted}
@@ -62,6 +62,36 @@ holds-moved h g ws vs b c parent parent′ low (inner i key p l r) e kept k =
       two = k .two;
       on-left = holds-kept h g ws vs b c i (p + 1) l (λ y z. kept y (inr (inl z)) (λ q. o .0 (subst (λ x. In x l) q z))) (k .on-left);
       on-right = holds-kept h g ws vs b c i (p + 1) r (λ y z. kept y (inr (inr z)) (λ q. o .1 (subst (λ x. In x r) q z))) (k .on-right);
+    }
+
+-- and where the whole tree hangs at node j below another: j holds what its top held, the top's children have Parent j, and no other node of it changes
+pub holds-relabelled : (h g : Header) (ws vs : List ℕ) → h .nodes .bump ≤ g .nodes .bump → h .values .bump ≤ g .values .bump
+    → (parent low parent′ low′ j : ℕ) (t : Tree) → 1 ≤ j → j < g .nodes .bump → low′ ≤ prefixOf t
+    → nodeOf vs j ≡ withParent parent′ (nodeOf ws (top t)) → ((y : ℕ) → Child y t → nodeOf vs y ≡ withParent j (nodeOf ws y))
+    → ((y : ℕ) → In y t → y ≢ top t → (Child y t → ⊥) → nodeOf vs y ≡ nodeOf ws y) → Holds h ws parent low t → Holds g vs parent′ low′ (relabel j t)
+unfolding Holds
+holds-relabelled h g ws vs b c parent low parent′ low′ j (leaf i key v) index used rises e kid kept k =
+    record {
+      index-some = index;
+      index-used = used;
+      here = e ∙ ap (withParent parent′) (k .here);
+      rises = rises;
+      value-some = k .value-some;
+      value-used = omega (arith, k .value-used);
+    }
+holds-relabelled h g ws vs b c parent low parent′ low′ j (inner i key p l r) index used rises e kid kept k =
+    let o = once h ws parent low (inner i key p l r) k in
+    record {
+      index-some = index;
+      index-used = used;
+      here = e ∙ ap (withParent parent′) (k .here);
+      rises = rises;
+      short = k .short;
+      two = k .two;
+      on-left = holds-moved h g ws vs b c i j (p + 1) l (kid (top l) (inl refl))
+          (λ y z d. kept y (inr (inl z)) (λ f. o .0 (subst (λ x. In x l) f z)) (λ q. ⊎-elim d (λ f. o .2 y z (is-top r f)) q)) (k .on-left);
+      on-right = holds-moved h g ws vs b c i j (p + 1) r (kid (top r) (inr refl))
+          (λ y z d. kept y (inr (inr z)) (λ f. o .1 (subst (λ x. In x r) f z)) (λ q. ⊎-elim (λ f. o .2 y (is-top l f) z) d q)) (k .on-right);
     }
 
 -- a chain where its records stay free and name the same

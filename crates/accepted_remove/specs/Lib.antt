@@ -1,10 +1,8 @@
--- Remove on an accepted image: what each of its stores leaves, what it plans, and the tree that the image holds afterwards.
-pub mod Step
+-- Remove on an accepted image: what its stores leave, what it plans, and the tree that the image holds afterwards.
 pub mod Stores
 pub mod Spot
-pub mod Records
-pub mod After
 pub mod Moved
+pub mod After
 pub mod Cut
 pub mod Lone
 pub mod Call

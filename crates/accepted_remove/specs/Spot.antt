@@ -1,17 +1,20 @@
--- Where a remove takes place: the key's leaf hangs below a node of the tree, and its sibling beside it. The tests before any write pass there, and the plan is to cut.
+-- Where a remove takes place: the key's leaf hangs below a node of the tree, and its sibling beside it. The tests before
+-- any write pass there, and the plan is to cut.
 use mathlib.Core.Path.{_≡_, refl, ap, subst}
 use mathlib.Core.List.{List}
 use mathlib.Core.Bool.{Bool, true, false, cond}
 use mathlib.Core.Option.{Option, none, some}
 use Prim.Native.Nat.{ℕ, _+_, _≤_}
 use native.Mathlib.Omega.{arith}
-use borrow.Author.Tests.{ne-eqb, lt-ltb}
+use borrow.Author.Tests.{ne-eqb, le-leb, lt-ltb}
 use Rattle.keys.specs.declared.Key.{Key}
 use Rattle.records.specs.declared.Header.{Header}
-use Rattle.records.specs.Records.{nodeOf}
-use Rattle.remove_steps.specs.Steps.{siblingOf}
+use Rattle.records.specs.declared.Node.{Node}
+use Rattle.records.specs.declared.Value.{Value}
+use Rattle.records.specs.Records.{nodeOf, leafNode}
+use Rattle.inspection.specs.declared.Live.the-variants as live
 use Rattle.remove.specs.declared.Plan.the-variants.{Cut}
-use Rattle.remove.specs.Plan.{siblingOk, leafPlan}
+use Rattle.remove.specs.Plan.{siblingOf, siblingOk, cutPlan, leafPlan}
 use Rattle.lists.specs.Entries.{same}
 use Rattle.trees.specs.Keys.{bit, unequal}
 use Rattle.trees.specs.Tree.{Tree, leaf, inner, fork, top, relabel}
@@ -19,9 +22,10 @@ use Rattle.trees.specs.Nodes.{In}
 use Rattle.trees.specs.Lookup.{reach}
 use Rattle.trees.specs.Remove.{hit, close, remove}
 use Rattle.trees.specs.Changes.{spot, in-spot, top-remove}
-use Rattle.accepted.specs.Rules.{Holds, leafNode}
-use Rattle.accepted.specs.Held.{node-passes, kids-pass}
-use Rattle.accepted.specs.Forks.{forkNode, Fork, fork-held, in-node, in-near, in-far, fork-once, fork-rebuilt}
+use Rattle.accepted.specs.Rules.{Holds}
+use Rattle.accepted.specs.Held.{Clean, node-passes, kids-pass}
+use Rattle.accepted_lookup.specs.Descents.{at}
+use Rattle.accepted.specs.Forks.{sidedNode, Fork, fork-held, in-node, in-near, in-far, fork-once, fork-rebuilt}
 
 -- the subtree t is the parent of the leaf i of the key, which names value record j
 pub record Spot (h : Header) (ws : List ℕ) (key : Key) (i j : ℕ) (t : Tree) : Type 0 where
@@ -39,7 +43,8 @@ pub record Spot (h : Header) (ws : List ℕ) (key : Key) (i j : ℕ) (t : Tree) 
   pub turns : bit key prefix ≡ side
   pub ours : same key own ≡ true
 
--- On the way from t down to the spot u only nodes above it are passed: where no other node changes and the sibling holds the parent's place, the image holds the tree t′ without the key.
+-- On the way from t down to the spot u only nodes above it are passed: where no other node changes and the sibling holds
+-- the parent's place, the image holds the tree t′ without the key.
 pub record Way (h : Header) (ws : List ℕ) (key : Key) (i j parent low : ℕ) (t u t′ : Tree) : Type 0 where
   pub at : Spot h ws key i j u
   pub rebuilt : (g : Header) (vs : List ℕ) → h .nodes .bump ≤ g .nodes .bump → h .values .bump ≤ g .values .bump
@@ -113,39 +118,40 @@ module _ (h : Header) (ws : List ℕ) (key : Key) (i j : ℕ) where
       go false true w b f g e left right = at-fork parent low x a q false l r k b f e
       go false false w b f g e left right = through-fork parent low x a q false l r (spot key l) (remove key l) k (top-remove key l) (in-spot key l) (left f e)
 
-  -- ---- the tests before any write
+-- ---- the tests before any write
 
-  module _ (t : Tree) (s : Spot h ws key i j t) where
-    pub leaf-here : nodeOf ws i ≡ leafNode (s .p) (s .own) j
-    unfolding Holds
-    leaf-here = s .held .on-near .here
+module _ {h : Header} {ws : List ℕ} {key : Key} {i j : ℕ} {t : Tree} (s : Spot h ws key i j t) where
+  -- the records of the leaf and of the node above
+  abbrev pub leafThere : Node
+  leafThere = leafNode (s .p) (s .own) j
 
-    pub sibling-is : siblingOf key (nodeOf ws (s .p)) .0 ≡ top (s .far)
-    unfolding siblingOf
-    sibling-is = rw (s .held .here) (go (s .side) (s .turns))
-      where
-        go : (b : Bool) → bit key (s .prefix) ≡ b → siblingOf key (forkNode (s .parent) (s .label) (s .prefix) b i (top (s .far))) .0 ≡ top (s .far)
-        go true e = rw e
-        go false e = rw e
+  abbrev pub forkThere : Node
+  forkThere = sidedNode (s .parent) (s .label) (s .prefix) (s .side) i (top (s .far))
 
-    prefix-is : nodeOf ws (s .p) .prefix ≡ s .prefix
-    prefix-is = rw (s .held .here) (go (s .side))
-      where
-        go : (b : Bool) → forkNode (s .parent) (s .label) (s .prefix) b i (top (s .far)) .prefix ≡ s .prefix
-        go true = refl
-        go false = refl
+  pub leaf-here : nodeOf ws i ≡ leafThere
+  unfolding Holds
+  leaf-here = s .held .on-near .here
 
-    sibling-passes : siblingOk h ws key (s .p) ≡ true
-    unfolding siblingOk
-    sibling-passes =
-        rw (
-          sibling-is,
-          prefix-is,
-          lt-ltb (s .prefix) 128 (s .held .short),
-          node-passes h ws (s .p) (s .prefix + 1) (s .far) (s .held .on-far) (λ z. absurd (omega (arith, s .held .index-some))),
-        )
-        (kids-pass h ws (s .p) (s .prefix + 1) (s .far) (s .held .on-far))
+  sibling-is : siblingOf key forkThere ≡ at (top (s .far))
+  unfolding siblingOf
+  sibling-is = rw (s .turns) (go (s .side))
+    where
+      go : (b : Bool) → cond b (at (cond b (top (s .far)) i)) (at (cond b i (top (s .far)))) ≡ at (top (s .far))
+      go true = refl
+      go false = refl
 
-    pub cut-planned : leafPlan h ws key (record { 0 = i }) ≡ Cut (record { 0 = i })
-    unfolding leafPlan
-    cut-planned = rw (leaf-here, ne-eqb (s .p) 0 (λ z. omega (arith, s .held .index-some)), sibling-passes)
+  pub cut-planned : Clean h ws → (v : Value)
+      → leafPlan h ws key (at i) (nodeOf ws i) (live.Holds v) ≡ Cut h (at i) leafThere forkThere (at (top (s .far))) (nodeOf ws (top (s .far))) v
+  unfolding leafPlan cutPlan siblingOk
+  cut-planned clean v =
+      simp (
+        leaf-here,
+        s .held .here,
+        sibling-is,
+        ne-eqb (s .p) 0 (λ z. omega (arith, s .held .index-some)),
+        le-leb 1 (s .p) (s .held .index-some),
+        lt-ltb (s .p) (h .nodes .bump) (s .held .index-used),
+        lt-ltb (s .prefix) 128 (s .held .short),
+        node-passes h ws clean (s .p) (s .prefix + 1) (s .far) (s .held .on-far),
+        kids-pass h ws clean (s .p) (s .prefix + 1) (s .far) (s .held .on-far),
+      )

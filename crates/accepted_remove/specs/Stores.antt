@@ -1,210 +1,121 @@
--- The stores of remove as steps: the leaf is unhung and freed with its value record, and the sibling moves into the parent.
-use mathlib.Core.Path.{_≡_, refl, sym, ap, _∙_}
+-- The stores of remove as rows of the calculus (record_views/Stored), over any records: what they make of each node, of
+-- each value record and of the header.
+use mathlib.Core.Path.{_≡_, refl}
 use mathlib.Core.List.{List}
-use mathlib.Core.Logic.{_≢_}
+use mathlib.Core.Logic.{_≢_, _⊎_, inl, inr}
 use mathlib.Core.Bool.{Bool, true, false, cond}
-use Prim.Native.Nat.{ℕ, _+_, _-_, _^_, _≤_, _<_}
+use Prim.Native.Nat.{ℕ, _^_, _≤_, _<_}
 use native.Mathlib.Omega.{arith}
-use lib.ListN.{getD}
-use borrow.Author.Tests.{ne-eqb, eq-eqb}
+use lib.Dec.{eqb}
+use borrow.Author.Tests.{eq-eqb, ne-eqb, eqb-false}
+use Rattle.words.specs.Tests.{either-way}
+use Rattle.node_allocator.specs.declared.Arena.{Arena}
 use Rattle.node_allocator.specs.declared.Arena.the-variants.{Nodes, Values}
 use Rattle.node_allocator.specs.declared.Counts.{Counts}
-use Rattle.node_allocator.specs.declared.Field.{Field}
-use Rattle.node_allocator.specs.declared.Field.the-variants as field
-use Rattle.node_allocator.specs.Layout.{nodeAt, recordAt, capacityOf}
-use Rattle.node_allocator.specs.Steps.{countsOf, getRegister, setRegister, clearRegister, connected, disconnected, removeImage}
-use Rattle.arena_laws.specs.Places.{Inside}
-use Rattle.arena_laws.specs.Laws.{register-word}
+use Rattle.node_allocator.specs.declared.Register.the-variants.{Left, Parent}
+use Rattle.node_allocator.specs.Layout.{inside}
+use Rattle.node_allocator.specs.Steps.{freed, removeCounts, removeImage}
+use Rattle.records.specs.declared.Header.{Header}
 use Rattle.records.specs.declared.Node.{Node}
-use Rattle.records.specs.Records.{nodeOf, contentOf}
-use Rattle.descent.specs.Descent.{isInner}
-use Rattle.remove_steps.specs.Steps.{unhung, leafRemoved, contentMoved, valueMoved, kidsMoved, placeFreed, migrated}
-use Rattle.record_views.specs.Small.{FitsContent}
-use Rattle.record_views.specs.Nodes.{changed, withField, withContent}
-use Rattle.record_views.specs.Values.{RoomForAll, withLink}
-use Rattle.accepted_remove.specs.Step.{Step, Quiet, Bounds, freedCounts, joined, stays, register-step, register-any, content-step, node-freed, value-freed, room-after}
+use Rattle.records.specs.declared.ValueRecord.{ValueRecord}
+use Rattle.records.specs.Records.{withParent, bareNode}
+use Rattle.records.specs.Writes.{setNode}
+use Rattle.remove.specs.Steps.{leafFreed, moved, placeFreed, cutImage}
+use Rattle.record_views.specs.Nodes.{changed, withRegister}
+use Rattle.record_views.specs.Values.{withLink}
+use Rattle.record_views.specs.Small.{FitsNode, FitsCounts}
+use Rattle.record_views.specs.Stored.{Stored, withNodes, withValues, store-node, store-register, free-node, free-value}
 
--- ---- a node's registers are its record's
+-- ---- what is stored fits
 
-register-left : (n : ℕ) (ws : List ℕ) (p : ℕ) → 1 ≤ p → p ≤ n → getRegister (Nodes n) ws p field.Left ≡ nodeOf ws p .left .0
-unfolding nodeOf recordAt capacityOf
-register-left n ws p l h =
-    let named : Inside (Nodes n) p = record { low = l; high = h } in
-    let place : nodeAt p + 0 ≡ nodeAt p = omega arith in
-    register-word ws field.Left named ∙ ap (λ (k : ℕ). getD ws k 0) place
+fits-bare : (parent : ℕ) (x : Node) → parent < 2 ^ 32 → FitsNode x → FitsNode (bareNode parent x)
+fits-bare parent x l f =
+    record { left-fits = omega arith; right-fits = omega arith; parent-fits = l; value-fits = omega arith; key-fits = f .key-fits; prefix-fits = f .prefix-fits }
 
-register-right : (n : ℕ) (ws : List ℕ) (p : ℕ) → 1 ≤ p → p ≤ n → getRegister (Nodes n) ws p field.Right ≡ nodeOf ws p .right .0
-unfolding nodeOf recordAt capacityOf
-register-right n ws p l h =
-    let named : Inside (Nodes n) p = record { low = l; high = h } in
-    register-word ws field.Right named
+fits-moved : (parent : ℕ) (x : Node) → parent < 2 ^ 32 → FitsNode x → FitsNode (withParent parent x)
+fits-moved parent x l f =
+    record { left-fits = f .left-fits; right-fits = f .right-fits; parent-fits = l; value-fits = f .value-fits; key-fits = f .key-fits; prefix-fits = f .prefix-fits }
 
--- the child register on a side
-abbrev pub sideField : Bool → Field
-sideField true = field.Right
-sideField false = field.Left
+fits-removed : (a : Arena) (c : Counts) (i : ℕ) → i < 2 ^ 32 → FitsCounts c → FitsCounts (removeCounts a c i)
+unfolding removeCounts freed
+fits-removed a c i l f = either-way FitsCounts (inside a i) _ c (record { bump-fits = f .bump-fits; head-fits = l }) f
 
--- node i hangs on the side of node p
-abbrev pub Hangs : Bool → ℕ → Node → Type 0
-Hangs true i x = (x .right .0 ≡ i) × (x .left .0 ≢ i)
-Hangs false i x = x .left .0 ≡ i
+-- ---- a leaf is freed
 
--- ---- what each step does to node y, whose record is x
+-- node i is stored as x and goes to the front of the chain that began at head
+abbrev pub frees : ℕ → Node → ℕ → ℕ → Node → Node
+frees i x head y w = changed i (withRegister Left head) y (changed i (λ u. x) y w)
 
--- the leaf i leaves its parent p
-abbrev pub unhangs : Bool → ℕ → ℕ → ℕ → Node → Node
-unhangs side i p y x = changed p (withField (sideField side) 0) y (changed i (withField field.Parent 0) y x)
+module _ {m n b c : ℕ} {us ws : List ℕ} {f : ℕ → Node → Node} {g : ℕ → ValueRecord → ValueRecord} {t : Header → Header} (s : Stored m n b c us ws f g t) where
+  free-stored : (i : ℕ) (x : Node) (k : Counts) → 1 ≤ i → i < b → FitsNode x → FitsCounts k
+      → Stored m n b c us (removeImage (Nodes n) (setNode n ws i x) i k) (λ y w. frees i x (k .head) y (f y w)) g (λ h. withNodes (removeCounts (Nodes n) k i) (t h))
+  free-stored i x k l u fits counts = free-node (store-node s i x u fits) i k l u counts
 
--- leaf i is freed, after `unhang`; `head` was the head of the chain
-abbrev pub frees : (ℕ → Node → Node) → ℕ → ℕ → ℕ → Node → Node
-frees unhang i head y x = changed i (withField field.Left head) y (unhang y (changed i (withField field.Value 0) y x))
+-- the header k after leaf i and value record j are freed, with the counts of h
+abbrev pub lessLeaf : ℕ → ℕ → Header → ℕ → ℕ → Header → Header
+lessLeaf m n h i j k = withNodes (removeCounts (Nodes n) (h .nodes) i) (withValues (removeCounts (Values n m) (h .values) j) k)
 
--- the value record of s, whose record is z, goes over to p where s is a leaf
-abbrev pub passes : Node → ℕ → ℕ → ℕ → Node → Node
-passes z s p y x = cond (isInner z) x (changed p (withField field.Value (z .value .0)) y (changed s (withField field.Value 0) y x))
+module _ {m n b c : ℕ} {us ws : List ℕ} {f : ℕ → Node → Node} {g : ℕ → ValueRecord → ValueRecord} {t : Header → Header} (s : Stored m n b c us ws f g t)
+    (h : Header) (nodes : FitsCounts (h .nodes)) (values : FitsCounts (h .values)) where
+  pub leaf-stored : (i : ℕ) (x : Node) → 1 ≤ i → i < b → 1 ≤ x .value .0 → x .value .0 < c → FitsNode x
+      → Stored m n b c us (leafFreed m n ws h i x) (λ y w. frees i (bareNode 0 x) (h .nodes .head) y (f y w))
+      (λ y r. changed (x .value .0) (withLink (h .values .head)) y (g y r)) (λ k. lessLeaf m n h i (x .value .0) (t k))
+  unfolding leafFreed
+  leaf-stored i x l u some used fits =
+      free-stored (free-value s (x .value .0) (h .values) some used values) i (bareNode 0 x) (h .nodes) l u (fits-bare 0 x (omega arith) fits) nodes
 
--- the children l and r are p's
-abbrev pub adopts : ℕ → ℕ → ℕ → ℕ → Node → Node
-adopts l r p y x =
-    changed r (withField field.Parent p) y (changed p (withField field.Right r) y (changed l (withField field.Parent p) y (changed p (withField field.Left l) y x)))
+-- ---- a leaf is cut off
 
--- s is freed
-abbrev pub vacates : ℕ → ℕ → ℕ → Node → Node
-vacates s head y x = changed s (withField field.Left head) y (changed s (withField field.Right 0) y (changed s (withField field.Left 0) y x))
+-- leaf i, whose record is x, is freed; the sibling s, whose record is z, moves into node p below `above`; its old
+-- node is freed, before which the chain began at `next`
+abbrev pub cuts : ℕ → Node → ℕ → ℕ → ℕ → ℕ → Node → ℕ → ℕ → Node → Node
+cuts i x head p above s z next y w =
+    frees s (bareNode (z .parent .0) z) next y
+    (changed (z .right .0) (withRegister Parent p) y
+    (changed (z .left .0) (withRegister Parent p) y
+    (changed p (λ u. withParent above z) y (frees i (bareNode 0 x) head y w))))
 
--- all of these: z is the record of s
-abbrev pub migrates : Node → ℕ → ℕ → ℕ → ℕ → Node → Node
-migrates z s p head y x = vacates s head y (adopts (z .left .0) (z .right .0) p y (passes z s p y (changed p (withContent (contentOf z)) y x)))
+abbrev pub lessTwo : ℕ → ℕ → Header → ℕ → ℕ → ℕ → Header → Header
+lessTwo m n h i j s k = withNodes (removeCounts (Nodes n) (removeCounts (Nodes n) (h .nodes) i) s) (lessLeaf m n h i j k)
 
-module _ {m n b c : ℕ} (bounds : Bounds m n b c) where
-  -- ---- the leaf i leaves its parent p
+module _ {m n b c : ℕ} {ws : List ℕ} (begun : Stored m n b c ws ws (λ y x. x) (λ y r. r) (λ h. h)) (h : Header) (nodes : FitsCounts (h .nodes)) (values : FitsCounts (h .values))
+    (i : ℕ) (x y : Node) (s : ℕ) (z : Node) where
+  pub cut-stored : 1 ≤ i → i < b → 1 ≤ x .value .0 → x .value .0 < c → FitsNode x → x .parent .0 < b → FitsNode y
+      → 1 ≤ s → s < b → FitsNode z → z .left .0 < b → z .right .0 < b
+      → Stored m n b c ws (cutImage m n ws h i x y s z) (cuts i x (h .nodes .head) (x .parent .0) (y .parent .0) s z (removeCounts (Nodes n) (h .nodes) i .head))
+      (changed (x .value .0) (withLink (h .values .head))) (lessTwo m n h i (x .value .0) s)
+  unfolding cutImage placeFreed moved
+  cut-stored l u some used fx up fy sl su fz kl kr =
+      let small : x .parent .0 < 2 ^ 32 = fx .parent-fits in
+      let index : i < 2 ^ 32 = omega (arith, begun .bounds .most, begun .bounds .few) in
+      let one = leaf-stored begun h nodes values i x l u some used fx in
+      let two = store-node one (x .parent .0) (withParent (y .parent .0) z) up (fits-moved (y .parent .0) z (fy .parent-fits) fz) in
+      let three = store-register two (z .left .0) (x .parent .0) Parent kl small in
+      let four = store-register three (z .right .0) (x .parent .0) Parent kr small in
+      free-stored four s (bareNode (z .parent .0) z) (removeCounts (Nodes n) (h .nodes) i) sl su (fits-bare (z .parent .0) z (fz .parent-fits) fz) (fits-removed (Nodes n) (h .nodes) i index nodes)
 
-  disconnected-step : (ws : List ℕ) → RoomForAll m n ws → (f : Field) (i p : ℕ) → 1 ≤ i → i < b → 1 ≤ p → p < b
-      → Quiet m n b c ws (disconnected (Nodes n) ws i p field.Parent f) (λ y x. changed p (withField f 0) y (changed i (withField field.Parent 0) y x))
-  unfolding disconnected
-  disconnected-step ws room f i p l h l′ h′ =
-      let one = register-step bounds ws room i 0 field.Parent l h (omega arith) in
-      joined one (register-step bounds (clearRegister (Nodes n) ws i field.Parent) (room-after one room) p 0 f l′ h′ (omega arith))
+-- ---- each node afterwards
 
-  pub unhung-step : (side : Bool) (ws : List ℕ) → RoomForAll m n ws → (i p : ℕ) → 1 ≤ i → i < b → 1 ≤ p → p < b → Hangs side i (nodeOf ws p)
-      → Quiet m n b c ws (unhung n ws i p) (unhangs side i p)
-  unfolding unhung
-  unhung-step true ws room i p l h l′ h′ e =
-      rw (
-        register-left n ws p l′ (omega (arith, bounds .most)),
-        ne-eqb i (nodeOf ws p .left .0) (λ z. e .1 (sym z)),
-        register-right n ws p l′ (omega (arith, bounds .most)),
-        eq-eqb i (nodeOf ws p .right .0) (sym (e .0)),
-      )
-      (disconnected-step ws room field.Right i p l h l′ h′)
-  unhung-step false ws room i p l h l′ h′ e =
-      rw (register-left n ws p l′ (omega (arith, bounds .most)), eq-eqb i (nodeOf ws p .left .0) (sym e))
-      (disconnected-step ws room field.Left i p l h l′ h′)
+module _ (i : ℕ) (x : Node) (head p above s : ℕ) (z : Node) (next : ℕ) where
+  pub cuts-other : (y : ℕ) (w : Node) → y ≢ i → y ≢ p → y ≢ s → y ≢ z .left .0 → y ≢ z .right .0 → cuts i x head p above s z next y w ≡ w
+  cuts-other y w a b c d e = simp (ne-eqb y i a, ne-eqb y p b, ne-eqb y s c, ne-eqb y (z .left .0) d, ne-eqb y (z .right .0) e)
 
-  -- a root has no parent: nothing is stored
-  pub unhung-root : (ws : List ℕ) (i : ℕ) → 1 ≤ i → unhung n ws i 0 ≡ ws
-  unfolding unhung getRegister
-  unhung-root ws i l = rw (ne-eqb i 0 (λ e. omega arith))
+  pub cuts-leaf : (w : Node) → i ≢ p → i ≢ s → i ≢ z .left .0 → i ≢ z .right .0 → cuts i x head p above s z next i w ≡ withRegister Left head (bareNode 0 x)
+  cuts-leaf w a b c d = simp (eq-eqb i i refl, ne-eqb i p a, ne-eqb i s b, ne-eqb i (z .left .0) c, ne-eqb i (z .right .0) d)
 
-  -- ---- the leaf is freed, and its value record j
+  pub cuts-parent : (w : Node) → p ≢ s → p ≢ z .left .0 → p ≢ z .right .0 → cuts i x head p above s z next p w ≡ withParent above z
+  cuts-parent w a b c = simp (eq-eqb p p refl, ne-eqb p s a, ne-eqb p (z .left .0) b, ne-eqb p (z .right .0) c)
 
-  pub freed-step : (ws : List ℕ) → RoomForAll m n ws → (i p j head value-head : ℕ) (unhang : ℕ → Node → Node)
-      → nodeOf ws i .parent .0 ≡ p → nodeOf ws i .value .0 ≡ j → 1 ≤ i → i < b → 1 ≤ j → j < c
-      → countsOf (Nodes n) ws .head ≡ head → countsOf (Values n m) ws .head ≡ value-head
-      → Quiet m n b c (clearRegister (Nodes n) ws i field.Value) (unhung n (clearRegister (Nodes n) ws i field.Value) i p) unhang
-      → Step m n b c ws (leafRemoved m n ws i) (frees unhang i head) (changed j (withLink value-head)) (freedCounts i) (freedCounts j)
-  unfolding leafRemoved
-  freed-step ws room i p j head value-head unhang above names l h l′ h′ e e′ apart =
-      rw (above, names) (joined three (node-freed bounds (removeImage (Values n m) us j) (room-after three room) i head l h (ap (λ (x : Counts). x .head) (three .node-counts) ∙ e)))
+  pub cuts-place : (w : Node) → cuts i x head p above s z next s w ≡ withRegister Left next (bareNode (z .parent .0) z)
+  cuts-place w = simp (eq-eqb s s refl)
+
+  pub cuts-kid : (y : ℕ) (w : Node) → y ≢ i → y ≢ p → y ≢ s → (y ≡ z .left .0) ⊎ (y ≡ z .right .0) → cuts i x head p above s z next y w ≡ withParent p w
+  cuts-kid y w a b c k = simp (ne-eqb y i a, ne-eqb y p b, ne-eqb y s c) (go k (eqb y (z .left .0)) (eqb y (z .right .0)) refl refl)
     where
-      us : List ℕ
-      us = unhung n (clearRegister (Nodes n) ws i field.Value) i p
-
-      two : Quiet m n b c ws us (λ y x. unhang y (changed i (withField field.Value 0) y x))
-      two = joined (register-step bounds ws room i 0 field.Value l h (omega arith)) apart
-
-      three : Step m n b c ws (removeImage (Values n m) us j) (λ y x. unhang y (changed i (withField field.Value 0) y x)) (changed j (withLink value-head)) (λ x. x) (freedCounts j)
-      three = joined two (value-freed bounds us (room-after two room) j value-head l′ h′ (ap (λ (x : Counts). x .head) (two .value-counts) ∙ e′))
-
-  -- ---- the sibling s moves into the parent p
-
-  moved-step : (ws : List ℕ) → RoomForAll m n ws → (s p : ℕ) (z : Node) → nodeOf ws s ≡ z → 1 ≤ s → s < b → 1 ≤ p → p < b → z .value .0 < 2 ^ 32
-      → Quiet m n b c ws (valueMoved n ws s p) (passes z s p)
-  unfolding valueMoved
-  moved-step ws room s p z e l h l′ h′ small = rw e (go (isInner z))
-    where
-      go : (inner : Bool) → Quiet m n b c ws (cond inner ws (setRegister (Nodes n) (clearRegister (Nodes n) ws s field.Value) p (z .value .0) field.Value))
-          (λ y x. cond inner x (changed p (withField field.Value (z .value .0)) y (changed s (withField field.Value 0) y x)))
-      go true = stays m n b c ws
-      go false =
-          let one = register-step bounds ws room s 0 field.Value l h (omega arith) in
-          joined one (register-step bounds (clearRegister (Nodes n) ws s field.Value) (room-after one room) p (z .value .0) field.Value l′ h′ small)
-
-  connected-step : (ws : List ℕ) → RoomForAll m n ws → (p k : ℕ) (f : Field) → 1 ≤ p → p < b → k < b
-      → Quiet m n b c ws (connected (Nodes n) ws p k f field.Parent) (λ y x. changed k (withField field.Parent p) y (changed p (withField f k) y x))
-  unfolding connected
-  connected-step ws room p k f l h h′ =
-      let one = register-step bounds ws room p k f l h (omega (arith, bounds .most, bounds .few)) in
-      joined one (register-any bounds (setRegister (Nodes n) ws p k f) (room-after one room) k p field.Parent h′ (omega (arith, bounds .most, bounds .few)))
-
-  kids-step : (ws : List ℕ) → RoomForAll m n ws → (s p l r : ℕ) → nodeOf ws s .left .0 ≡ l → nodeOf ws s .right .0 ≡ r → 1 ≤ p → p < b → l < b → r < b
-      → Quiet m n b c ws (kidsMoved n ws s p) (adopts l r p)
-  unfolding kidsMoved
-  kids-step ws room s p l r e e′ some used hl hr =
-      let one = connected-step ws room p l field.Left some used hl in
-      rw (e, e′) (joined one (connected-step (connected (Nodes n) ws p l field.Left field.Parent) (room-after one room) p r field.Right some used hr))
-
-  place-step : (ws : List ℕ) → RoomForAll m n ws → (s head : ℕ) → 1 ≤ s → s < b → countsOf (Nodes n) ws .head ≡ head
-      → Step m n b c ws (placeFreed n ws s) (vacates s head) (λ y r. r) (freedCounts s) (λ x. x)
-  unfolding placeFreed
-  place-step ws room s head l h e =
-      let one = register-step bounds ws room s 0 field.Left l h (omega arith) in
-      let two = joined one (register-step bounds (clearRegister (Nodes n) ws s field.Left) (room-after one room) s 0 field.Right l h (omega arith)) in
-      joined two (node-freed bounds (clearRegister (Nodes n) (clearRegister (Nodes n) ws s field.Left) s field.Right) (room-after two room) s head l h (ap (λ (x : Counts). x .head) (two .node-counts) ∙ e))
-
-  content-moved-step : (ws : List ℕ) → RoomForAll m n ws → (s p : ℕ) (z : Node) → nodeOf ws s ≡ z → 1 ≤ p → p < b → FitsContent (contentOf z)
-      → Quiet m n b c ws (contentMoved n ws s p) (changed p (withContent (contentOf z)))
-  unfolding contentMoved
-  content-moved-step ws room s p z e l h fits = rw e (content-step bounds ws room p (contentOf z) l h fits)
-
-  -- where s is not p, its children are those that it had
-  passes-kids : (z : Node) (s p : ℕ) → s ≢ p → (passes z s p s z .left .0 ≡ z .left .0) × (passes z s p s z .right .0 ≡ z .right .0)
-  passes-kids z s p d = go (isInner z)
-    where
-      go : (inner : Bool) → (cond inner z (changed p (withField field.Value (z .value .0)) s (changed s (withField field.Value 0) s z)) .left .0 ≡ z .left .0)
-          × (cond inner z (changed p (withField field.Value (z .value .0)) s (changed s (withField field.Value 0) s z)) .right .0 ≡ z .right .0)
-      go true = (refl, refl)
-      go false = (rw (ne-eqb s p d, eq-eqb s s refl), rw (ne-eqb s p d, eq-eqb s s refl))
-
-  pub migrated-step : (ws : List ℕ) → RoomForAll m n ws → (s p head : ℕ) (z : Node) → nodeOf ws s ≡ z → s ≢ p → 1 ≤ s → s < b → 1 ≤ p → p < b
-      → z .left .0 < b → z .right .0 < b → z .value .0 < 2 ^ 32 → FitsContent (contentOf z) → countsOf (Nodes n) ws .head ≡ head
-      → Step m n b c ws (migrated n ws s p) (migrates z s p head) (λ y r. r) (freedCounts s) (λ x. x)
-  unfolding migrated
-  migrated-step ws room s p head z e d l h l′ h′ hl hr small fits eh =
-      joined three (place-step (kidsMoved n us2 s p) (room-after three room) s head l h (ap (λ (x : Counts). x .head) (three .node-counts) ∙ eh))
-    where
-      us1 : List ℕ
-      us1 = contentMoved n ws s p
-
-      us2 : List ℕ
-      us2 = valueMoved n us1 s p
-
-      one : Quiet m n b c ws us1 (changed p (withContent (contentOf z)))
-      one = content-moved-step ws room s p z e l′ h′ fits
-
-      still : nodeOf us1 s ≡ z
-      still = one .node s l (omega (arith, bounds .most)) ∙ rw (ne-eqb s p d) e
-
-      pass : Quiet m n b c us1 us2 (passes z s p)
-      pass = moved-step us1 (room-after one room) s p z still l h l′ h′ small
-
-      two : Quiet m n b c ws us2 (λ y x. passes z s p y (changed p (withContent (contentOf z)) y x))
-      two = joined one pass
-
-      now : nodeOf us2 s ≡ passes z s p s z
-      now = pass .node s l (omega (arith, bounds .most)) ∙ ap (passes z s p s) still
-
-      three : Quiet m n b c ws (kidsMoved n us2 s p) (λ y x. adopts (z .left .0) (z .right .0) p y (passes z s p y (changed p (withContent (contentOf z)) y x)))
-      three =
-          joined two (kids-step us2 (room-after two room) s p (z .left .0) (z .right .0)
-          (ap (λ (x : Node). x .left .0) now ∙ passes-kids z s p d .0) (ap (λ (x : Node). x .right .0) now ∙ passes-kids z s p d .1) l′ h′ hl hr)
+      go : (y ≡ z .left .0) ⊎ (y ≡ z .right .0) → (l r : Bool) → eqb y (z .left .0) ≡ l → eqb y (z .right .0) ≡ r
+          → cond r (withParent p (cond l (withParent p w) w)) (cond l (withParent p w) w) ≡ withParent p w
+      go k true true d e = refl
+      go k true false d e = refl
+      go k false true d e = refl
+      go (inl q) false false d e = absurd (eqb-false y (z .left .0) d q)
+      go (inr q) false false d e = absurd (eqb-false y (z .right .0) e q)

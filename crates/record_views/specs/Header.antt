@@ -14,6 +14,7 @@ use Rattle.records.specs.declared.Header.{Header}
 use Rattle.records.specs.Records.{headerOf, frontOf, paddingOf}
 use Rattle.record_views.specs.Words.{Alike, wide-same}
 use Rattle.record_views.specs.Kept.{dataOf, Off, Keeps, Spares, Elsewhere}
+use Rattle.record_views.specs.Small.{Small, FitsCounts, counts-fit}
 
 -- ---- the header by its parts
 
@@ -29,6 +30,13 @@ pub header-is : (m n : ℕ) (ws : List ℕ) {r : ℕ} {p q : Counts} → getD ws
     → headerOf n ws ≡ record { root = record { 0 = r }; nodes = p; values = q }
 unfolding headerOf countsOf headerAt
 header-is m n ws e f g = λ ι. record { root = record { 0 = e ι }; nodes = f ι; values = g ι }
+
+-- its counts fit where every word does
+pub nodes-fit : (n : ℕ) (ws : List ℕ) → Small ws → FitsCounts (headerOf n ws .nodes)
+nodes-fit n ws s = rw (nodes-are n ws) (counts-fit (Nodes n) ws s)
+
+pub values-fit : (n : ℕ) (ws : List ℕ) → Small ws → FitsCounts (headerOf n ws .values)
+values-fit n ws s = rw (values-are 0 n ws) (counts-fit (Values n 0) ws s)
 
 -- ---- what leaves it
 

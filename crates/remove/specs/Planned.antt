@@ -38,15 +38,18 @@ written-number (Lone h i x v) w = refl
 written-number (Cut h i x y s z v) w = refl
 written-number (Refused r) w = absurd (false≢true w)
 
-module _ (m n : ℕ) (before : List ℕ) (key : Key) (p : Plan)
-    (made : openedPlan n (imageOf before) key (openOf m n (imageOf before)) ≡ p) where
+-- the plan q that was made is p
+module _ (m n : ℕ) (before : List ℕ) (key : Key) (q p : Plan) (made : q ≡ openedPlan n (imageOf before) key (openOf m n (imageOf before))) (is : q ≡ p) where
+  plan : openedPlan n (imageOf before) key (openOf m n (imageOf before)) ≡ p
+  plan = sym made ∙ is
+
   pub planned-answer : valueGone p ≡ removeOf m n (imageOf before) key
   unfolding removeOf
-  planned-answer = rw made
+  planned-answer = rw plan
 
   module _ (w : writes p ≡ true) where
     opened : (h : Header) × (openOf m n (imageOf before) ≡ Good h)
-    opened = made-open n (imageOf before) key (openOf m n (imageOf before)) (ap writes made ∙ w)
+    opened = made-open n (imageOf before) key (openOf m n (imageOf before)) (ap writes plan ∙ w)
 
     pub planned-room : 48 * n + 32 * m + 48 ≤ length before
     planned-room = omega (arith, opened-bytes m n before (opened .0) (opened .1))
@@ -56,11 +59,9 @@ module _ (m n : ℕ) (before : List ℕ) (key : Key) (p : Plan)
     unfolding removedImage
     planned-image after long e =
         wrote (opened-whole m n before (opened .0) (opened .1)) long (ap gotNumber (sym planned-answer) ∙ written-number p w)
-        (e ∙ rw (made, opened-words m n before (opened .0) (opened .1)))
+        (e ∙ rw (plan, opened-words m n before (opened .0) (opened .1)))
 
--- a refused plan passes through no store
-pub refused-image : (m n : ℕ) (before : List ℕ) (key : Key) (r : Refusal)
-    → openedPlan n (imageOf before) key (openOf m n (imageOf before)) ≡ Refused r
-    → Leaves before before (gotNumber (removeOf m n (imageOf before) key)) (removedImage m n (imageOf before) key)
-unfolding removedImage planImage
-refused-image m n before key r made = left-alone (rw made)
+  -- a refused plan passes through no store
+  pub refused-image : (r : Refusal) → p ≡ Refused r → Leaves before before (gotNumber (removeOf m n (imageOf before) key)) (removedImage m n (imageOf before) key)
+  unfolding removedImage planImage
+  refused-image r e = left-alone (rw (plan, e))

@@ -19,7 +19,7 @@ use Rattle.records.specs.declared.NodeIndex.{NodeIndex}
 use Rattle.records.specs.declared.Got.{Got}
 use Rattle.records.specs.declared.Got.the-variants as got
 use Rattle.records.specs.Layout.{imageOf}
-use Rattle.records.specs.Records.{headerOf, nodeOf}
+use Rattle.records.specs.Records.{nodeOf}
 use Rattle.records.specs.Numbers.{refusalNumber, gotNumber, gotValue, zeroValue}
 use Rattle.inspection.specs.declared.Opened.the-variants.{Good}
 use Rattle.inspection.specs.Tests.{shapeOk, topOk, usedNode, nodeOk, rootOk, liveValue}

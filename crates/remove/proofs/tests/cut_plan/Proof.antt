@@ -26,7 +26,17 @@ enum-known-z : tie.Need-enum-known-z
 enum-known-z c = search needs
 
 returns : tie.Need-returns
-returns c = sym (beside-leaf (c .before .before .before .before .before .before .before .before .before .before .before .before .before .args .h) (words (c .before .before .before .before .before .before .before .before .before .before .before .before .before .args .img .now)) (c .before .before .before .before .before .before .before .before .before .before .before .before .before .args .key) (c .before .before .before .before .before .before .before .before .before .before .before .before .before .args .i) (c .before .before .before .before .before .before .before .before .before .before .before .before .before .args .x) (c .before .before .before .before .before .before .before .before .before .before .before .before .before .args .v) (c .before .before .before .before .before .before .before .before .node-in .result) (c .before .before .before .before .before .sibling .result) (sym (c .before .before .before .before .before .before .before .before .before .before .is-used .ensures) ∙ c .before .before .before .before .before .before .before .before .before .if1 .taken) (c .before .before .before .before .before .before .before .before .node-in .ensures) (c .before .before .before .before .before .sibling .ensures) (c .before .before .before .before .before .before .if2 .taken) _ (sym (c .before .before .before .visit .ensures) ∙ c .before .z .given .1))
+returns c =
+    let seen = c .before .before .before in
+    let other = seen .before .before in
+    let read = other .before .before .before in
+    let used = read .before .before in
+    let start = used .before .before .before in
+    sym
+    (beside-leaf (start .args .h) (words (start .args .img .now)) (start .args .key) (start .args .i) (start .args .x)
+    (start .args .v) (read .node-in .result) (other .sibling .result) (sym (used .is-used .ensures) ∙ read .before .if1 .taken)
+    (read .node-in .ensures) (other .sibling .ensures) (other .before .if2 .taken)
+    (seen .visit .result) (seen .visit .ensures) _ (c .before .z .given .1))
 
 enum-known-z-2 : tie.Need-enum-known-z-2
 enum-known-z-2 c = search needs
@@ -35,19 +45,57 @@ kids-ok-requires : tie.Need-kids-ok-requires
 kids-ok-requires c κs = c .before .before .before .before .before .before .before .before .before .before .before .before .before .pre
 
 returns-2 : tie.Need-returns-2
-returns-2 c = sym (beside-inner (c .before .before .before .before .before .before .before .before .before .before .before .before .before .before .before .args .h) (words (c .before .before .before .before .before .before .before .before .before .before .before .before .before .before .before .args .img .now)) (c .before .before .before .before .before .before .before .before .before .before .before .before .before .before .before .args .key) (c .before .before .before .before .before .before .before .before .before .before .before .before .before .before .before .args .i) (c .before .before .before .before .before .before .before .before .before .before .before .before .before .before .before .args .x) (c .before .before .before .before .before .before .before .before .before .before .before .before .before .before .before .args .v) (c .before .before .before .before .before .before .before .before .before .before .node-in .result) (c .before .before .before .before .before .before .before .sibling .result) (sym (c .before .before .before .before .before .before .before .before .before .before .before .before .is-used .ensures) ∙ c .before .before .before .before .before .before .before .before .before .before .before .if1 .taken) (c .before .before .before .before .before .before .before .before .before .before .node-in .ensures) (c .before .before .before .before .before .before .before .sibling .ensures) (c .before .before .before .before .before .before .before .before .if2 .taken) _ (sym (c .before .before .before .before .before .visit .ensures) ∙ c .before .before .before .z2 .given .1) ∙ simp (← c .before .kids-ok .ensures, c .if3 .taken))
+returns-2 c =
+    let seen = c .before .before .before .before .before in
+    let other = seen .before .before in
+    let read = other .before .before .before in
+    let used = read .before .before in
+    let start = used .before .before .before in
+    sym
+    (beside-inner (start .args .h) (words (start .args .img .now)) (start .args .key) (start .args .i) (start .args .x)
+    (start .args .v) (read .node-in .result) (other .sibling .result) (sym (used .is-used .ensures) ∙ read .before .if1 .taken)
+    (read .node-in .ensures) (other .sibling .ensures) (other .before .if2 .taken)
+    (seen .visit .result) (seen .visit .ensures) _ (c .before .before .before .z2 .given .1)
+    ∙ simp (← c .before .kids-ok .ensures, c .if3 .taken))
 
 enum-told : tie.Need-enum-told
 enum-told c = search needs
 
 returns-3 : tie.Need-returns-3
-returns-3 c = sym (beside-inner (c .before .before .before .before .before .before .before .before .before .before .before .before .before .before .before .args .h) (words (c .before .before .before .before .before .before .before .before .before .before .before .before .before .before .before .args .img .now)) (c .before .before .before .before .before .before .before .before .before .before .before .before .before .before .before .args .key) (c .before .before .before .before .before .before .before .before .before .before .before .before .before .before .before .args .i) (c .before .before .before .before .before .before .before .before .before .before .before .before .before .before .before .args .x) (c .before .before .before .before .before .before .before .before .before .before .before .before .before .before .before .args .v) (c .before .before .before .before .before .before .before .before .before .before .node-in .result) (c .before .before .before .before .before .before .before .sibling .result) (sym (c .before .before .before .before .before .before .before .before .before .before .before .before .is-used .ensures) ∙ c .before .before .before .before .before .before .before .before .before .before .before .if1 .taken) (c .before .before .before .before .before .before .before .before .before .before .node-in .ensures) (c .before .before .before .before .before .before .before .sibling .ensures) (c .before .before .before .before .before .before .before .before .if2 .taken) _ (sym (c .before .before .before .before .before .visit .ensures) ∙ c .before .before .before .z2 .given .1) ∙ simp (← c .before .kids-ok .ensures, c .if3 .left))
+returns-3 c =
+    let seen = c .before .before .before .before .before in
+    let other = seen .before .before in
+    let read = other .before .before .before in
+    let used = read .before .before in
+    let start = used .before .before .before in
+    sym
+    (beside-inner (start .args .h) (words (start .args .img .now)) (start .args .key) (start .args .i) (start .args .x)
+    (start .args .v) (read .node-in .result) (other .sibling .result) (sym (used .is-used .ensures) ∙ read .before .if1 .taken)
+    (read .node-in .ensures) (other .sibling .ensures) (other .before .if2 .taken)
+    (seen .visit .result) (seen .visit .ensures) _ (c .before .before .before .z2 .given .1)
+    ∙ simp (← c .before .kids-ok .ensures, c .if3 .left))
 
 returns-4 : tie.Need-returns-4
-returns-4 c = sym (beside-damaged (c .before .before .before .before .before .before .before .before .before .before .before .before .args .h) (words (c .before .before .before .before .before .before .before .before .before .before .before .before .args .img .now)) (c .before .before .before .before .before .before .before .before .before .before .before .before .args .key) (c .before .before .before .before .before .before .before .before .before .before .before .before .args .i) (c .before .before .before .before .before .before .before .before .before .before .before .before .args .x) (c .before .before .before .before .before .before .before .before .before .before .before .before .args .v) (c .before .before .before .before .before .before .before .node-in .result) (c .before .before .before .before .sibling .result) (sym (c .before .before .before .before .before .before .before .before .before .is-used .ensures) ∙ c .before .before .before .before .before .before .before .before .if1 .taken) (c .before .before .before .before .before .before .before .node-in .ensures) (c .before .before .before .before .sibling .ensures) (c .before .before .before .before .before .if2 .taken) (sym (c .before .before .visit .ensures) ∙ c .enum-told .given .1))
+returns-4 c =
+    let seen = c .before .before in
+    let other = seen .before .before in
+    let read = other .before .before .before in
+    let used = read .before .before in
+    let start = used .before .before .before in
+    sym
+    (beside-damaged (start .args .h) (words (start .args .img .now)) (start .args .key) (start .args .i) (start .args .x)
+    (start .args .v) (read .node-in .result) (other .sibling .result) (sym (used .is-used .ensures) ∙ read .before .if1 .taken)
+    (read .node-in .ensures) (other .sibling .ensures) (other .before .if2 .taken)
+    (seen .visit .result) (seen .visit .ensures) (c .enum-told .given .1))
 
 returns-5 : tie.Need-returns-5
-returns-5 c = sym (above-long (c .before .before .before .before .before .before .before .args .h) (words (c .before .before .before .before .before .before .before .args .img .now)) (c .before .before .before .before .before .before .before .args .key) (c .before .before .before .before .before .before .before .args .i) (c .before .before .before .before .before .before .before .args .x) (c .before .before .before .before .before .before .before .args .v) (c .before .before .node-in .result) _ (sym (c .before .before .before .before .is-used .ensures) ∙ c .before .before .before .if1 .taken) (c .before .before .node-in .ensures) refl (c .if2 .left))
+returns-5 c =
+    let read = c .before .before in
+    let used = read .before .before in
+    let start = used .before .before .before in
+    sym
+    (above-long (start .args .h) (words (start .args .img .now)) (start .args .key) (start .args .i) (start .args .x) (start .args .v)
+    (read .node-in .result) _ (sym (used .is-used .ensures) ∙ read .before .if1 .taken) (read .node-in .ensures) refl (c .if2 .left))
 
 returns-6 : tie.Need-returns-6
 returns-6 c = sym (above-unused (c .before .before .before .before .args .h) _ _ _ (c .before .before .before .before .args .x) _ (sym (c .before .is-used .ensures) ∙ c .if1 .left))
