@@ -1,6 +1,5 @@
 -- `lookup::get::stop_target` meets its contract. Assumes nothing.
 use Rattle.lookup.specs.Get.{stopTarget}
--- `lookup::get::stop_target` meets its contract. Assumes nothing.
 use borrow.Author.Needs.{needs}
 use Rattle.lookup.proofs.get.stop_target.Statement.{statement}
 use Rattle.lookup.proofs.get.stop_target.Tie as tie
