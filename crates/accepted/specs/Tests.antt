@@ -1,15 +1,15 @@
 -- The tests are the rules: each test, as the calls make it, passes exactly where its rule holds.
-use mathlib.Core.Path.{_≡_, refl, ap, _∙_}
+use mathlib.Core.Path.{_≡_, refl, sym, ap, _∙_}
 use mathlib.Core.List.{List}
 use mathlib.Core.Logic.{_≢_, _⊎_, ⊎-elim}
-use mathlib.Core.Bool.{Bool, true, false, cond, _&&_, _||_, not, Bool·beq, false≢true}
+use mathlib.Core.Bool.{Bool, true, false, cond, _&&_, _||_, not, Bool·beq}
 use Prim.Native.Nat.{ℕ, _+_, _-_, _*_, _≤_}
 use native.Mathlib.Omega.{arith}
 use native.Mathlib.Decide.{ℕ-discrete}
 use lib.ListN.{length}
 use lib.Dec.{eqb}
 use borrow.Author.Tests.{leb-true, le-leb, ltb-true, lt-ltb, eqb-true, eqb-false, eq-eqb, ne-eqb}
-use Rattle.words.specs.Tests.{and-l, and-r, or-cases, not-true}
+use Rattle.words.specs.Tests.{and-l, and-r, or-cases, not-true, beq-equal}
 use Rattle.node_allocator.specs.declared.Counts.{Counts}
 use Rattle.node_allocator.specs.Steps.{linkOk}
 use Rattle.records.specs.declared.Header.{Header}
@@ -26,10 +26,7 @@ use Rattle.accepted.specs.Rules.{ArenaRules, HeaderRules, Live, Link, Fr
 -- ---- two tests agree exactly if their facts do
 
 beq-fact : (a b : Bool) → Bool·beq a b ≡ true → (a ≡ true → b ≡ true) × (b ≡ true → a ≡ true)
-beq-fact true true e = ((λ x. refl), λ x. refl)
-beq-fact true false e = absurd (false≢true e)
-beq-fact false true e = absurd (false≢true e)
-beq-fact false false e = ((λ x. x), λ x. x)
+beq-fact a b e = let same = beq-equal a b e in ((λ x. sym same ∙ x), λ x. same ∙ x)
 
 fact-beq : (a b : Bool) → (a ≡ true → b ≡ true) → (b ≡ true → a ≡ true) → Bool·beq a b ≡ true
 fact-beq true true f g = refl

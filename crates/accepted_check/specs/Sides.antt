@@ -2,12 +2,12 @@
 -- way round. And the walk's test of a side is the rule.
 use mathlib.Core.Path.{_≡_, refl, sym, _∙_}
 use mathlib.Core.Logic.{⊎-elim}
-use mathlib.Core.Bool.{Bool, true, false, _&&_, Bool·beq, false≢true}
+use mathlib.Core.Bool.{Bool, true, false, _&&_, Bool·beq}
 use Prim.Native.Nat.{ℕ, zero, suc, _+_, _-_, _≤_, _<_}
 use native.Mathlib.Omega.{arith}
 use lib.Dec.{eqb, leb}
 use borrow.Author.Tests.{leb-true, le-leb, eqb-true, ne-eqb}
-use Rattle.words.specs.Tests.{and-l, and-r, or-cases}
+use Rattle.words.specs.Tests.{and-l, and-r, or-cases, beq-equal, beq-itself}
 use Rattle.keys.specs.declared.Key.{Key}
 use Rattle.keys.specs.Number.{numberOf}
 use Rattle.keys.specs.Common.{common, bitOf}
@@ -41,16 +41,6 @@ side-up k p b (inner i a q x y) l o s =
 
 abbrev pub OnSide : ℕ → Key → Bool → Key → Type 0
 OnSide low k b a = (p : ℕ) → low ≡ p + 1 → Side k p b a
-
-beq-equal : (a b : Bool) → Bool·beq a b ≡ true → a ≡ b
-beq-equal true true e = refl
-beq-equal true false e = absurd (false≢true e)
-beq-equal false true e = absurd (false≢true e)
-beq-equal false false e = refl
-
-beq-itself : (a : Bool) → Bool·beq a a ≡ true
-beq-itself true = refl
-beq-itself false = refl
 
 pub side-rules : (low : ℕ) (k : Key) (b : Bool) (x : Node) → sideOk low k b x ≡ true → OnSide low k b (x .key)
 unfolding sideOk

@@ -1,5 +1,5 @@
 -- The descent by a key's bits alone. The smallest entry is where the bits of 0 lead, and the largest where those of 2^128 - 1 do.
-use mathlib.Core.Path.{_≡_, refl, sym}
+use mathlib.Core.Path.{_≡_, refl}
 use mathlib.Core.List.{List}
 use mathlib.Core.Logic.{⊎-elim}
 use mathlib.Core.Bool.{Bool, true, false, cond, _&&_, Bool·beq}
@@ -8,7 +8,7 @@ use native.Mathlib.Omega.{arith}
 use native.Mathlib.Nat.{eq-or-lt-of-le}
 use lib.Dec.{eqb}
 use borrow.Author.Tests.{eqb-true}
-use Rattle.words.specs.Tests.{and-l, and-r}
+use Rattle.words.specs.Tests.{and-l, and-r, beq-equal}
 use Rattle.keys.specs.declared.Key.{Key}
 use Rattle.keys.specs.Number.{numberOf}
 use Rattle.keys.specs.Common.{bitOf}
@@ -43,17 +43,11 @@ abbrev first : Bool → ℕ → Bool
 first right zero = true
 first right (suc n) = first right n && Bool·beq (bitOf (numberOf (allBits right)) n) right
 
-both-same : (a b : Bool) → Bool·beq a b ≡ true → a ≡ b
-both-same true true e = refl
-both-same false false e = refl
-both-same true false e = sym e
-both-same false true e = e
-
 among-first : (right : Bool) (n p : ℕ) → first right n ≡ true → p < n → bitOf (numberOf (allBits right)) p ≡ right
 among-first right zero p e l = absurd (omega arith)
 among-first right (suc n) p e l =
     ⊎-elim
-    (λ (s : p ≡ n). rw s (both-same _ _ (and-r (first right n) _ e)))
+    (λ (s : p ≡ n). rw s (beq-equal _ _ (and-r (first right n) _ e)))
     (λ (s : p < n). among-first right n p (and-l (first right n) _ e) s)
     (eq-or-lt-of-le (omega arith))
 

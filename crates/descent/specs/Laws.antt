@@ -11,7 +11,9 @@ use borrow.Author.Tests.{leb-true, ltb-true, eqb-true}
 use Rattle.words.specs.Tests.{and-l, and-r, or-cases}
 use Rattle.keys.specs.declared.Key.{Key}
 use Rattle.keys.specs.Number.{numberOf}
+use Rattle.keys.specs.declared.Way.the-variants.{Parts}
 use Rattle.keys.specs.Common.{common}
+use Rattle.keys.specs.Ways.{sideOf, wayOf, way-parts, way-side}
 use Rattle.records.specs.declared.Header.{Header}
 use Rattle.records.specs.declared.Node.{Node}
 use Rattle.records.specs.declared.NodeIndex.{NodeIndex}
@@ -21,10 +23,10 @@ use Rattle.inspection.specs.declared.Visited.the-variants.{Inner}
 use Rattle.inspection.specs.declared.Visited.the-variants as visited
 use Rattle.inspection.specs.Visit.{visitOf, came-through, came-node, came-inner, came-leaf, came-damaged, passed}
 use Rattle.descent.specs.declared.Stop.{Stop}
-use Rattle.descent.specs.declared.Stop.the-variants.{Damaged}
+use Rattle.descent.specs.declared.Stop.the-variants.{Parted, Damaged}
 use Rattle.descent.specs.declared.Turn.{Turn}
 use Rattle.descent.specs.declared.Turn.the-variants.{Down, Halt}
-use Rattle.descent.specs.Descent.{isInner, sharedWith, lookupTurn, turnAt, follow, descend}
+use Rattle.descent.specs.Descent.{isInner, childOf, sharedWith, lookupTurn, turnAt, follow, descend}
 
 -- ---- a turn goes down from an inner node alone, and to the next longer prefix
 
@@ -101,3 +103,19 @@ module _ (turn : NodeIndex → Node → Turn) (h : Header) (ws : List ℕ) (i ab
   pub turn-damaged : visitOf h ws (i .0) (above .0) low ≡ visited.Damaged → turnAt turn h ws i above low ≡ Halt Damaged
   unfolding turnAt
   turn-damaged e = rw (came-damaged h ws (i .0) (above .0) low e)
+
+-- A lookup's turn at an inner node, by the way that the key goes at its prefix.
+module _ (key : Key) (h : Header) (ws : List ℕ) (i above : NodeIndex) (low : ℕ) (x : Node) (e : visitOf h ws (i .0) (above .0) low ≡ Inner x) where
+  abbrev found : (turnAt (lookupTurn key) h ws i above low ≡ lookupTurn key i x) × (isInner x ≡ true) × (x .prefix < 128)
+  found = turn-inner (lookupTurn key) h ws i above low x e
+
+  pub turn-side : (one : Bool) → wayOf (numberOf key) (numberOf (x .key)) (x .prefix) ≡ sideOf one
+      → turnAt (lookupTurn key) h ws i above low ≡ Down (cond one (x .right) (x .left)) (x .prefix + 1)
+  unfolding lookupTurn childOf
+  turn-side one q =
+      let way = way-side (numberOf key) (numberOf (x .key)) (x .prefix) one q in
+      found .0 ∙ rw (way .0, found .1, way .1)
+
+  pub turn-parts : wayOf (numberOf key) (numberOf (x .key)) (x .prefix) ≡ Parts → turnAt (lookupTurn key) h ws i above low ≡ Halt (Parted i x (sharedWith key x))
+  unfolding lookupTurn
+  turn-parts q = found .0 ∙ rw (way-parts (numberOf key) (numberOf (x .key)) (x .prefix) q)

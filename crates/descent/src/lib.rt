@@ -5,7 +5,9 @@ use inspection::Visited;
 use inspection::visit::root_ok;
 use inspection::visit::visit;
 use keys::Key;
+use keys::Way;
 use keys::bit;
+use keys::goes;
 use keys::leading_equal;
 use records::Header;
 use records::Node;
@@ -53,11 +55,17 @@ fn lookup_turn(img: &[u8], h: Header, key: Key, i: NodeIndex, above: NodeIndex, 
     match visit(img, h, i, above, low) {
         Visited::Inner(x) => {
             let own = x.key;
-            let shared = leading_equal(key, own);
-            if shared < x.prefix {
-                return Turn::Halt(Stop::Parted(i, x, shared));
+            match goes(key, own, x.prefix) {
+                Way::Left => {
+                    let left = x.left;
+                    Turn::Down(left, x.prefix + 1)
+                }
+                Way::Right => {
+                    let right = x.right;
+                    Turn::Down(right, x.prefix + 1)
+                }
+                Way::Parts => Turn::Halt(Stop::Parted(i, x, leading_equal(key, own))),
             }
-            Turn::Down(child(key, x), x.prefix + 1)
         }
         Visited::Leaf(x) => {
             let own = x.key;

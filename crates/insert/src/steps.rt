@@ -15,6 +15,7 @@ use records::write::live_record;
 use records::write::set_node;
 use records::write::set_root;
 use records::write::set_value;
+use records::write::with_parent;
 ghost use mathlib.Core.Path.{_≡_};
 ghost use mathlib.Core.Bool.{cond};
 ghost use Prim.Native.Nat.{_+_, _*_, _≤_};
@@ -22,7 +23,7 @@ ghost use lib.ListN.{length};
 ghost use Rattle.words.specs.Words.{words};
 ghost use Rattle.node_allocator.specs.declared.Arena.the-variants.{Nodes};
 ghost use Rattle.node_allocator.specs.Steps.{addCounts};
-ghost use Rattle.records.specs.Records.{leafNode, withParent};
+ghost use Rattle.records.specs.Records.{leafNode};
 ghost use Rattle.insert.specs.Steps.{leafTaken, firstImage, adopted, forkNode, forked, splitImage};
 
 // The leaf's node is taken, and its value record, which holds the value. The answer is the nodes' header afterwards.
@@ -81,23 +82,6 @@ fn adopt(img: &mut [u8], n: u32, i: NodeIndex, l: NodeIndex, r: NodeIndex)
     let a = Arena::Nodes { nodes: n };
     set_register(img, a, l.0, i.0, Register::Parent);
     set_register(img, a, r.0, i.0, Register::Parent);
-}
-
-fn with_parent(parent: NodeIndex, x: Node) -> Node
-    ensures { λ r. ⌜ r ≡ withParent (parent .0) x ⌝ }
-{
-    let left = x.left;
-    let right = x.right;
-    let value = x.value;
-    let key = x.key;
-    Node {
-        left,
-        right,
-        parent,
-        value,
-        key,
-        prefix: x.prefix,
-    }
 }
 
 // The first of two nodes, or the second.

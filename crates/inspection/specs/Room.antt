@@ -1,12 +1,13 @@
 -- What an opened image gives: it is a whole number of words, as many as M and N ask for, and it has room for every record below a bump.
 use mathlib.Core.Path.{_≡_, refl, sym, ap, _∙_}
 use mathlib.Core.List.{List, []}
-use mathlib.Core.Bool.{Bool, true, false, cond, _&&_}
+use mathlib.Core.Bool.{Bool, true, false, cond, _&&_, true≢false}
 use Prim.Native.Nat.{ℕ, _+_, _*_, _%_, _≤_, _<_}
+use native.Mathlib.Decide.{ℕ-discrete}
 use native.Mathlib.Omega.{arith}
 use lib.ListN.{length}
 use lib.Dec.{eqb, leb, ltb}
-use borrow.Author.Tests.{leb-true, ltb-true, eqb-true, eq-eqb}
+use borrow.Author.Tests.{leb-true, ltb-true, eqb-true, eq-eqb, ne-eqb}
 use Rattle.words.specs.Tests.{and-l, and-r}
 use Rattle.words.specs.Words.{words, words-length}
 use Rattle.node_allocator.specs.declared.Counts.{Counts}
@@ -16,7 +17,7 @@ use Rattle.inspection.specs.declared.Opened.{Opened}
 use Rattle.inspection.specs.declared.Opened.the-variants.{Good, Shut}
 use Rattle.records.specs.Layout.{imageOf, imageLength, mostValues, mostNodes}
 use Rattle.records.specs.Records.{headerOf}
-use Rattle.inspection.specs.Tests.{shapeOk, arenaOk, headerOk, frontOk, spareOk, topOk, usedNode}
+use Rattle.inspection.specs.Tests.{shapeOk, bytesOk, arenaOk, headerOk, frontOk, spareOk, topOk, usedNode}
 use Rattle.inspection.specs.Opening.{openShaped, openOf}
 
 -- the shape: M and N within their limits, and the word count
@@ -128,6 +129,26 @@ pub opened-whole : (m n : ℕ) (bytes : List ℕ) (h : Header) → openOf m n (i
 opened-whole m n bytes h e = shaped-whole m n bytes (parts m n (imageOf bytes) h e .0)
 
 -- ---- the buffer of an image in bytes
+
+-- the image has as many words as M and N ask for exactly if the buffer has four times as many bytes
+bytes-asked : (m n : ℕ) (bytes : List ℕ) → eqb (length bytes) (4 * imageLength m n) ≡ eqb (length (imageOf bytes)) (imageLength m n)
+unfolding imageOf
+bytes-asked m n bytes = go (eqb (length bytes % 4) 0) refl (ℕ-discrete (length bytes) (4 * imageLength m n))
+  where
+    go : (b : Bool) → eqb (length bytes % 4) 0 ≡ b → Dec (length bytes ≡ 4 * imageLength m n)
+        → eqb (length bytes) (4 * imageLength m n) ≡ eqb (length (cond b (words bytes) [])) (imageLength m n)
+    go true t (yes e) =
+        eq-eqb (length bytes) (4 * imageLength m n) e ∙ sym (eq-eqb (length (words bytes)) (imageLength m n) (omega (arith, words-length bytes)))
+    go true t (no d) =
+        let whole = eqb-true (length bytes % 4) 0 t in
+        ne-eqb (length bytes) (4 * imageLength m n) d ∙ sym (ne-eqb (length (words bytes)) (imageLength m n) (omega (arith, words-length bytes)))
+    go false t (yes e) =
+        let whole : length bytes % 4 ≡ 0 = omega arith in absurd (true≢false (sym (eq-eqb (length bytes % 4) 0 whole) ∙ t))
+    go false t (no d) = ne-eqb (length bytes) (4 * imageLength m n) d ∙ sym (ne-eqb 0 (imageLength m n) (omega arith))
+
+-- so the shape can be tested by the length in bytes
+pub bytes-shape : (m n : ℕ) (bytes : List ℕ) → bytesOk m n (length bytes) ≡ shapeOk m n (length (imageOf bytes))
+bytes-shape m n bytes = rw (bytes-asked m n bytes)
 
 pub shaped-bytes : (m n : ℕ) (bytes : List ℕ) → shapeOk m n (length (imageOf bytes)) ≡ true → length bytes ≡ 48 * n + 32 * m + 48
 shaped-bytes m n bytes e =

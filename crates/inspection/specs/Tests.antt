@@ -15,6 +15,10 @@ use Rattle.records.specs.Layout.{mostValues, mostNodes, imageLength}
 abbrev pub shapeOk : ℕ → ℕ → ℕ → Bool
 shapeOk m n count = leb 1 m && leb m mostValues && leb (2 * m) n && leb n mostNodes && eqb count (imageLength m n)
 
+-- the same by the buffer's length in bytes, as the code tests it (`bytes-shape` of Room)
+abbrev pub bytesOk : ℕ → ℕ → ℕ → Bool
+bytesOk m n len = leb 1 m && leb m mostValues && leb (2 * m) n && leb n mostNodes && eqb len (4 * imageLength m n)
+
 -- ---- Header
 
 -- bump in 1..limit+1, head in 1..bump, size at most bump-1; the head equals its bump exactly if size equals bump-1

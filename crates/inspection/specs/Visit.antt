@@ -1,5 +1,5 @@
--- A node tested as a visited node, with what it then is: an inner node, a leaf, or damaged. This is the one test of a visited node; the code asks first
--- for the node's kind, and `by-inner` and `by-leaf` say that this is the same.
+-- A node tested as a visited node, with what it then is: an inner node, a leaf, or damaged. This is the one test of a visited node; the code tests
+-- first what both kinds share and then asks for the node's kind, and `visit-kind` and `first-kind` say that this is the same.
 use mathlib.Core.Path.{_≡_, refl, sym, ap, _∙_}
 use mathlib.Core.List.{List}
 use mathlib.Core.Logic.{_⊎_, inl, inr, ⊎-elim}
@@ -53,16 +53,16 @@ live-tested n ws leaf j = go (liveValue n ws leaf j)
 abbrev pub joined : Bool → ℕ → ℕ → Node → Bool
 joined clean above low x = clean && eqb (x .parent .0) above && leb low (x .prefix)
 
--- an inner node that passes
-abbrev pub asInner : Bool → ℕ → ℕ → Node → Visited
-asInner clean above low x = cond (joined clean above low x && innerForm x) (Inner x) Damaged
-
--- a node of a used index by its kind
-unfoldable pub byKind : Header → Bool → ℕ → ℕ → Node → Visited
-byKind h clean above low x =
+-- a node that has passed that, by its kind
+unfoldable pub ofKind : Header → Node → Visited
+ofKind h x =
     cond (eqb (x .value .0) 0)
-    (asInner clean above low x)
-    (cond (joined clean above low x && (ltb (x .value .0) (h .values .bump) && leafForm x)) (Leaf x) Damaged)
+    (cond (innerForm x) (Inner x) Damaged)
+    (cond (ltb (x .value .0) (h .values .bump) && leafForm x) (Leaf x) Damaged)
+
+-- a node of a used index
+unfoldable pub byKind : Header → Bool → ℕ → ℕ → Node → Visited
+byKind h clean above low x = cond (joined clean above low x) (ofKind h x) Damaged
 
 some : (a : ℕ) → (a ≡ 0 → ⊥) → 1 ≤ a
 some a n = ⊎-elim (λ e. absurd (n e)) (λ l. omega arith) (eq-zero-or-pos a)
@@ -77,6 +77,11 @@ order true false l true = refl
 order true false l false = refl
 order false j l f = refl
 
+-- one test after the other, or both at once
+nested : (a b : Bool) (v w : Visited) → cond (a && b) v w ≡ cond a (cond b v w) w
+nested true b v w = refl
+nested false b v w = refl
+
 or-false : (a : Bool) → (a || false) ≡ a
 or-false true = refl
 or-false false = refl
@@ -86,19 +91,16 @@ module _ (h : Header) (ws : List ℕ) (i : ℕ) (u : usedNode h i ≡ true) wher
   x = nodeOf ws i
 
   pub visit-kind : (above low : ℕ) → byKind h (paddingOk ws i) above low (nodeOf ws i) ≡ visitOf h ws i above low
-  unfolding byKind visitOf nodeOk formOk
+  unfolding byKind ofKind visitOf nodeOk formOk
   visit-kind above low = go (eqb (x .value .0) 0) refl
     where
-      go : (b : Bool) → eqb (x .value .0) 0 ≡ b
-          → cond b (cond (joined (paddingOk ws i) above low x && innerForm x) (Inner x) Damaged)
-          (cond (joined (paddingOk ws i) above low x && (ltb (x .value .0) (h .values .bump) && leafForm x)) (Leaf x) Damaged)
-          ≡ visitOf h ws i above low
+      go : (b : Bool) → eqb (x .value .0) 0 ≡ b → byKind h (paddingOk ws i) above low x ≡ visitOf h ws i above low
       go true e =
           let none : leb 1 (x .value .0) ≡ false = rw (eqb-true (x .value .0) 0 e) in
-          simp (u, e, none, order (paddingOk ws i) (eqb (x .parent .0) above) (leb low (x .prefix)) (innerForm x))
+          simp (u, e, none, order (paddingOk ws i) (eqb (x .parent .0) above) (leb low (x .prefix)) (innerForm x), nested)
       go false e =
           let one : leb 1 (x .value .0) ≡ true = le-leb 1 (x .value .0) (some (x .value .0) (λ z. unequal (sym (eq-eqb (x .value .0) 0 z) ∙ e))) in
-          simp (u, e, one, or-false, order (paddingOk ws i) (eqb (x .parent .0) above) (leb low (x .prefix)) (ltb (x .value .0) (h .values .bump) && leafForm x))
+          simp (u, e, one, or-false, order (paddingOk ws i) (eqb (x .parent .0) above) (leb low (x .prefix)) (ltb (x .value .0) (h .values .bump) && leafForm x), nested)
         where
           unequal : true ≡ false → ⊥
           unequal q = let z : _≡_ {A = ℕ} 0 1 = cc in omega arith

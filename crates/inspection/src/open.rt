@@ -18,10 +18,7 @@ ghost use lib.ListN.{length};
 pub fn is_image(img: &[u8], m: u32, n: u32) -> bool
     ensures { λ r. ⌜ r ≡ shapeOk m n (length (imageOf (now (img .entry)))) ⌝ }
 {
-    if img.len() % 4 == 0 {
-        return shape_ok(m, n, words::count(img));
-    }
-    shape_ok(m, n, 0)
+    shape_ok(m, n, img.len())
 }
 
 // The header of an image of the right shape, or refusal 2.
@@ -30,8 +27,10 @@ pub fn open_shaped(img: &[u8], m: u32, n: u32) -> Opened
     ensures { λ r. ⌜ r ≡ openShaped m n (imageOf (now (img .entry))) ⌝ }
 {
     let h = header_in(img, n);
-    if padding_clean(img) & header_ok(m, n, h) {
-        return Opened::Good(h);
+    if padding_clean(img) {
+        if header_ok(m, n, h) {
+            return Opened::Good(h);
+        }
     }
     Opened::Shut(Refusal::Damaged)
 }

@@ -1,4 +1,5 @@
-// The tests of a record, each a function of the records that it is about. They are chains of `&` and so without a branch.
+// The tests of a record, each a function of the records that it is about. Most are chains of `&` and so without a branch; an `if` stands
+// where a failed test spares those after it, or where what follows could wrap without it.
 use node_allocator::Counts;
 use node_allocator::link_ok;
 use records::Header;
@@ -10,64 +11,50 @@ use records::read::front_in;
 use records::read::padding_in;
 use records::read::spare_in;
 ghost use mathlib.Core.Path.{_≡_};
-ghost use mathlib.Core.Bool.{cond, _&&_};
-ghost use Prim.Native.Nat.{_+_, _-_, _*_, _≤_};
+ghost use mathlib.Core.Bool.{_&&_};
+ghost use Prim.Native.Nat.{_+_, _*_, _≤_};
 ghost use lib.ListN.{length};
-ghost use lib.Dec.{eqb};
 ghost use Rattle.words.specs.Words.{words};
-ghost use Rattle.inspection.specs.Tests.{shapeOk, arenaOk, countsOk, headerOk, frontOk, spareOk, usedNode, paddingOk, leafForm, innerForm, freeNode, freeValue};
+ghost use Rattle.inspection.specs.Tests.{bytesOk, arenaOk, countsOk, headerOk, frontOk, spareOk, usedNode, paddingOk, leafForm, innerForm, freeNode, freeValue};
 
 // The limits of M and N.
 const MOST_VALUES: u32 = 4096;
 
 const MOST_NODES: u32 = 8192;
 
-// One less, and 0 of 0.
-fn one_less(x: u64) -> u64
-    ensures { λ r. ⌜ r ≡ x - 1 ⌝ }
-{
-    if x == 0 { 0 } else { x - 1 }
-}
-
-// M and N lie within their limits, and there are as many words as they ask for.
-pub fn shape_ok(m: u32, n: u32, count: usize) -> bool
-    ensures { λ r. ⌜ r ≡ shapeOk m n count ⌝ }
+// M and N lie within their limits, and a buffer of `len` bytes has as many words as they ask for.
+pub fn shape_ok(m: u32, n: u32, len: usize) -> bool
+    ensures { λ r. ⌜ r ≡ bytesOk m n len ⌝ }
 {
     (1 <= m)
         & (m <= MOST_VALUES)
         & (2 * (m as usize) <= (n as usize))
         & (n <= MOST_NODES)
-        & (count == 12 + 12 * (n as usize) + 8 * (m as usize))
+        & (len == 4 * (12 + 12 * (n as usize) + 8 * (m as usize)))
 }
 
 // The header of an arena of `limit` records.
 fn arena_ok(c: Counts, limit: u32) -> bool
     ensures { λ r. ⌜ r ≡ arenaOk c limit ⌝ }
 {
-    let last = one_less(c.bump as u64);
-    (1 <= c.bump)
-        & ((c.bump as u64) <= (limit as u64) + 1)
-        & (1 <= c.head)
-        & (c.head <= c.bump)
-        & (c.size <= last)
-        & ((c.head == c.bump) == (c.size == last))
+    if ((c.bump as u64) <= (limit as u64) + 1) & (1 <= c.head) & (c.head <= c.bump) {
+        let last = (c.bump as u64) - 1;
+        return (c.size <= last) & ((c.head == c.bump) == (c.size == last));
+    }
+    false
 }
 
-fn root_of(size: u64) -> u32
-    ensures { λ r. ⌜ r ≡ cond (eqb size 0) 0 1 ⌝ }
-{
-    if size == 0 { 0 } else { 1 }
-}
-
+// The sizes, the root, and the node head of an empty map.
 fn counts_ok(m: u32, h: Header) -> bool
     ensures { λ r. ⌜ r ≡ countsOk m h ⌝ }
 {
-    if (m as u64) < h.values.size {
-        return false;
+    if h.values.size == 0 {
+        return (h.nodes.size == 0) & (h.root.0 == 0) & (h.nodes.head == 1);
     }
-    (h.nodes.size == one_less(2 * h.values.size))
-        & (h.root.0 == root_of(h.values.size))
-        & ((h.values.size != 0) | (h.nodes.head == 1))
+    if h.values.size <= (m as u64) {
+        return (h.nodes.size == 2 * h.values.size - 1) & (h.root.0 == 1);
+    }
+    false
 }
 
 // What the header of a map of capacity M over N nodes says.
@@ -76,7 +63,12 @@ pub fn header_ok(m: u32, n: u32, h: Header) -> bool
 {
     let nodes = h.nodes;
     let values = h.values;
-    counts_ok(m, h) & arena_ok(nodes, n) & arena_ok(values, m)
+    if counts_ok(m, h) {
+        if arena_ok(nodes, n) {
+            return arena_ok(values, m);
+        }
+    }
+    false
 }
 
 // The header's padding.

@@ -1,4 +1,4 @@
-// A visited node: the one test of it, by its kind; its children; and the value record of a leaf.
+// A visited node: the one test of it, what both kinds share and then its own; its children; and the value record of a leaf.
 use crate::Live;
 use crate::Visited;
 use crate::tests::inner_form;
@@ -17,37 +17,35 @@ ghost use lib.ListN.{length};
 ghost use Rattle.words.specs.Words.{words};
 ghost use Rattle.inspection.specs.Room.{Room};
 ghost use Rattle.inspection.specs.Tests.{nodeOk, rootOk, kidsOk};
-ghost use Rattle.inspection.specs.Visit.{asInner, byKind, visitOf, firstOf, liveOf, passes};
+ghost use Rattle.inspection.specs.Visit.{ofKind, byKind, visitOf, firstOf, liveOf, passes};
 
-// An inner node, test after test.
-fn as_inner(clean: bool, above: NodeIndex, low: u64, x: Node) -> Visited
-    ensures { λ r. ⌜ r ≡ asInner clean (above .0) low x ⌝ }
+// A node that has passed what is tested of both kinds, by its own.
+fn of_kind(h: Header, x: Node) -> Visited
+    ensures { λ r. ⌜ r ≡ ofKind h x ⌝ }
 {
-    if clean {
-        if x.parent.0 == above.0 {
-            if low <= x.prefix {
-                if inner_form(x) {
-                    return Visited::Inner(x);
-                }
-            }
+    if x.value.0 == 0 {
+        if inner_form(x) {
+            return Visited::Inner(x);
         }
+        return Visited::Damaged;
+    }
+    if (x.value.0 < h.values.bump) & leaf_form(x) {
+        return Visited::Leaf(x);
     }
     Visited::Damaged
 }
 
-// A node of a used index by its kind. `above` is the node that we came from (0 at the root), `low` the least prefix length that the node may have.
+// A node of a used index: what both kinds are tested for, then by its kind. `above` is the node that we came from (0 at the root), `low` the least
+// prefix length that the node may have.
 fn by_kind(h: Header, clean: bool, above: NodeIndex, low: u64, x: Node) -> Visited
     ensures { λ r. ⌜ r ≡ byKind h clean (above .0) low x ⌝ }
 {
-    if x.value.0 == 0 {
-        return as_inner(clean, above, low, x);
-    }
-    if clean
-        & (x.parent.0 == above.0)
-        & (low <= x.prefix)
-        & ((x.value.0 < h.values.bump) & leaf_form(x))
-    {
-        return Visited::Leaf(x);
+    if clean {
+        if x.parent.0 == above.0 {
+            if low <= x.prefix {
+                return of_kind(h, x);
+            }
+        }
     }
     Visited::Damaged
 }

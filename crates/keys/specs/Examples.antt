@@ -3,7 +3,9 @@
 use mathlib.Core.Path.{_≡_, refl}
 use Prim.Native.Nat.{ℕ, _^_}
 use Rattle.keys.specs.declared.Key.{Key}
-use Rattle.keys.specs.Common.{common, commonOf}
+use Rattle.keys.specs.declared.Way.the-variants.{Left, Right, Parts}
+use Rattle.keys.specs.Common.{common, commonOf, bitOf}
+use Rattle.keys.specs.Ways.{wayOf}
 use Rattle.keys.specs.Number.{numberOf}
 
 abbrev key : ℕ → ℕ → Key
@@ -28,3 +30,14 @@ pub worked-counts :
     × (common (numberOf B) (numberOf C) ≡ 127)
 unfolding numberOf common commonOf
 worked-counts = (refl, refl, refl, refl, refl, refl, refl)
+
+-- The ways of these keys: A parts from B at bit 0, B and C share 127 bits and go apart there, and no bit is left of a whole key.
+pub worked-ways :
+    (wayOf (numberOf A) (numberOf B) 0 ≡ Right)
+    × (wayOf (numberOf B) (numberOf A) 0 ≡ Left)
+    × (wayOf (numberOf A) (numberOf B) 1 ≡ Parts)
+    × (wayOf (numberOf C) (numberOf B) 127 ≡ Right)
+    × (wayOf (numberOf C) (numberOf B) 128 ≡ Parts)
+    × (wayOf (numberOf C) (numberOf C) 128 ≡ Left)
+unfolding numberOf common commonOf bitOf wayOf
+worked-ways = (refl, refl, refl, refl, refl, refl)

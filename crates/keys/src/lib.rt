@@ -4,11 +4,19 @@ ghost use mathlib.Core.Path.{_≡_};
 ghost use lib.Count.{leadingZeros};
 ghost use lib.Dec.{ltb, eqb};
 ghost use Rattle.keys.specs.Common.{common, bitOf};
+ghost use Rattle.keys.specs.Ways.{sideOf, wayOf};
 ghost use Rattle.keys.specs.Number.{numberOf};
 
 pub struct Key {
     pub high: u64,
     pub low: u64,
+}
+
+// Where a key goes at a prefix: to the side of its next bit, or it has another prefix.
+pub enum Way {
+    Left,
+    Right,
+    Parts,
 }
 
 // The number of leading equal bits of two keys: 0 to 128, and 128 for equal keys.
@@ -33,6 +41,32 @@ pub fn bit(k: Key, p: u64) -> bool
     } else {
         false
     }
+}
+
+fn side(one: bool) -> Way
+    ensures { λ r. ⌜ r ≡ sideOf one ⌝ }
+{
+    if one {
+        return Way::Right;
+    }
+    Way::Left
+}
+
+// Where key a goes at the first p bits of key b. Of p below 64 the high words tell: `place` is 63 - p, as the bit's place from the right.
+pub fn goes(a: Key, b: Key, p: u64) -> Way
+    ensures { λ r. ⌜ r ≡ wayOf (numberOf a) (numberOf b) p ⌝ }
+{
+    if p < 64 {
+        let place = p ^ 63;
+        if (a.high ^ b.high) >> place <= 1 {
+            return side((a.high >> place) % 2 == 1);
+        }
+        return Way::Parts;
+    }
+    if leading_equal(a, b) < p {
+        return Way::Parts;
+    }
+    side(bit(a, p))
 }
 
 // Whether a stands before b in the ascending order of keys.

@@ -14,6 +14,7 @@ ghost use mathlib.Core.Path.{_≡_};
 ghost use Prim.Native.Nat.{_+_, _*_, _≤_};
 ghost use lib.ListN.{length, set};
 ghost use Rattle.words.specs.Words.{words};
+ghost use Rattle.records.specs.Records.{withParent};
 ghost use Rattle.records.specs.Writes.{registersSet, keySet, nodeSet, setNode, valueSet, liveRecord, setValue};
 
 // Four words from a place on.
@@ -43,6 +44,24 @@ fn set_node_at(img: &mut [u8], at: usize, x: Node)
     set_registers(img, at, x.left.0, x.right.0, x.parent.0, x.value.0);
     set_key(img, at + 4, key);
     words::set_wide_in(img, at + 8, x.prefix);
+}
+
+// A node with another Parent.
+pub fn with_parent(parent: NodeIndex, x: Node) -> Node
+    ensures { λ r. ⌜ r ≡ withParent (parent .0) x ⌝ }
+{
+    let left = x.left;
+    let right = x.right;
+    let value = x.value;
+    let key = x.key;
+    Node {
+        left,
+        right,
+        parent,
+        value,
+        key,
+        prefix: x.prefix,
+    }
 }
 
 // Node `i` holds this data; its padding stays.

@@ -11,33 +11,16 @@ use records::NodeIndex;
 use records::ValueIndex;
 use records::write::set_node;
 use records::write::set_root;
+use records::write::with_parent;
 ghost use mathlib.Core.Path.{_≡_};
 ghost use Prim.Native.Nat.{_+_, _*_, _≤_};
 ghost use lib.ListN.{length};
 ghost use Rattle.words.specs.Words.{words};
 ghost use Rattle.node_allocator.specs.declared.Arena.the-variants.{Nodes};
 ghost use Rattle.node_allocator.specs.Steps.{removeCounts, removeImage};
-ghost use Rattle.records.specs.Records.{withParent, bareNode};
+ghost use Rattle.records.specs.Records.{bareNode};
 ghost use Rattle.records.specs.Writes.{setNode};
 ghost use Rattle.remove.specs.Steps.{leafFreed, loneImage, moved, cutImage};
-
-// A node with another Parent.
-fn with_parent(parent: NodeIndex, x: Node) -> Node
-    ensures { λ r. ⌜ r ≡ withParent (parent .0) x ⌝ }
-{
-    let left = x.left;
-    let right = x.right;
-    let value = x.value;
-    let key = x.key;
-    Node {
-        left,
-        right,
-        parent,
-        value,
-        key,
-        prefix: x.prefix,
-    }
-}
 
 // A node that links to nothing but its Parent.
 fn bare(parent: NodeIndex, x: Node) -> Node

@@ -7,6 +7,7 @@ use mathlib.Core.List.{List, [], _∷_, _++_, append-nil}
 use Prim.Native.Nat.{ℕ, zero, suc, _≤_, min}
 use native.Mathlib.Omega.{arith}
 use lib.ListN.{length, length-append}
+use Rattle.words.specs.Tests.{beq-itself}
 use Rattle.keys.specs.declared.Key.{Key}
 use Rattle.lists.specs.Lists.{All, Pairs, all-map}
 use Rattle.trees.specs.Keys.{shared, bit, turn, ultra, apart}
@@ -71,11 +72,7 @@ with-bit-append p b (x ∷ xs) ys = go (Bool·beq (bit x p) b) (with-bit-append 
     go false e = e
 
 all-with : (p : ℕ) (b : Bool) (t : Tree) → Each (λ a. bit a p ≡ b) t → withBit p b (keysOf t) ≡ keysOf t
-all-with p b (leaf i k v) h = rw (h, alike b)
-  where
-    alike : (b : Bool) → Bool·beq b b ≡ true
-    alike true = refl
-    alike false = refl
+all-with p b (leaf i k v) h = rw (h, beq-itself b)
 all-with p b (inner i k q l r) h = rw (with-bit-append, all-with p b l (h .0), all-with p b r (h .1))
 
 none-with : (p : ℕ) (b : Bool) (t : Tree) → Each (λ a. bit a p ≡ not b) t → withBit p b (keysOf t) ≡ []

@@ -2,12 +2,12 @@
 -- lean on: how many words there are, what a store leaves of each, and that on whole words equal words are equal bytes.
 use mathlib.Core.Path.{_≡_, refl, ap, sym, _∙_}
 use mathlib.Core.List.{List, [], _∷_}
-use mathlib.Core.Logic.{_⊎_, inl, inr, ⊎-elim, _≢_}
+use mathlib.Core.Logic.{_⊎_, inl, inr, ⊎-elim}
 use Prim.Native.Nat.{ℕ, zero, suc, _+_, _*_, _/_, _%_, _^_, _<_, _≤_}
 use native.Mathlib.Omega.{arith}
 use native.Mathlib.Nat.{eq-or-lt-of-le}
-use lib.ListN.{length, getD, set, length-set, List·getD-eq-default}
-use lib.Seq.{set-out, ext-getD, getD-set-same, getD-set-other}
+use lib.ListN.{length, getD, set, List·getD-eq-default}
+use lib.Seq.{set-out, ext-getD}
 
 -- the word that four bytes make
 abbrev pub wordOf : ℕ → ℕ → ℕ → ℕ → ℕ
@@ -81,20 +81,6 @@ putWord bytes at v =
 pub words-put : (bytes : List ℕ) (k v : ℕ) → 4 * k + 4 ≤ length bytes → v < 2 ^ 32 → words (putWord bytes (4 * k) v) ≡ set (words bytes) k v
 unfolding putWord
 words-put bytes k v h l = words-set bytes k _ _ _ _ h ∙ ap (set (words bytes) k) (word-bytes v l)
-
--- what a store leaves: the word itself where its place lies inside, every other word, and the number of words
-pub record Stored (before : List ℕ) (k v : ℕ) (after : List ℕ) : Type 0 where
-  pub there : k < length before → getD after k 0 ≡ v
-  pub others : (j : ℕ) → j ≢ k → getD after j 0 ≡ getD before j 0
-  pub as-many : length after ≡ length before
-
-pub stored : (ws : List ℕ) (k v : ℕ) → Stored ws k v (set ws k v)
-stored ws k v =
-    record {
-      there = λ h. getD-set-same ws k v 0 h;
-      others = λ j n. getD-set-other ws k j v 0 n;
-      as-many = length-set ws k v;
-    }
 
 -- ---- whole words: where no word differs, no byte does
 

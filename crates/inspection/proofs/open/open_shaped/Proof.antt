@@ -19,13 +19,23 @@ header-ok-requires c κs = search needs
 
 returns : tie.Need-returns
 unfolding openShaped topOk
-returns c = simp (image-words (c .before .before .before .before .before .args .m) (c .before .before .before .before .before .args .n) (c .before .before .before .before .before .args .img .now) (c .before .before .before .before .before .pre), ← c .before .before .before .header-in .ensures, ← c .before .before .padding-clean .ensures, ← c .before .header-ok .ensures, c .if1 .taken)
+returns c = simp (image-words (c .before .before .before .before .before .before .args .m) (c .before .before .before .before .before .before .args .n) (c .before .before .before .before .before .before .args .img .now) (c .before .before .before .before .before .before .pre), ← c .before .before .before .before .header-in .ensures, ← c .before .before .before .padding-clean .ensures, c .before .before .if1 .taken, ← c .before .header-ok .ensures, c .if2 .taken)
 
 returns-2 : tie.Need-returns-2
 unfolding openShaped topOk
-returns-2 c = simp (image-words (c .before .before .before .before .before .args .m) (c .before .before .before .before .before .args .n) (c .before .before .before .before .before .args .img .now) (c .before .before .before .before .before .pre), ← c .before .before .before .header-in .ensures, ← c .before .before .padding-clean .ensures, ← c .before .header-ok .ensures, c .if1 .left)
+returns-2 c = simp (image-words (c .before .before .before .before .before .before .args .m) (c .before .before .before .before .before .before .args .n) (c .before .before .before .before .before .before .args .img .now) (c .before .before .before .before .before .before .pre), ← c .before .before .before .before .header-in .ensures, ← c .before .before .before .padding-clean .ensures, c .before .before .if1 .taken, ← c .before .header-ok .ensures, c .if2 .left)
+
+returns-3 : tie.Need-returns-3
+unfolding openShaped topOk
+returns-3 c = simp (image-words (c .before .before .before .before .args .m) (c .before .before .before .before .args .n) (c .before .before .before .before .args .img .now) (c .before .before .before .before .pre), ← c .before .padding-clean .ensures, c .if1 .left)
 
 pub open-shaped-spec : {M : Type 1} → statement M
 open-shaped-spec =
     tie.close
-    (tie.spec header-in-requires padding-clean-requires header-ok-requires returns returns-2)
+    (tie.spec
+    header-in-requires
+    padding-clean-requires
+    header-ok-requires
+    returns
+    returns-2
+    returns-3)
