@@ -3,11 +3,14 @@
 use mathlib.Core.Path.{_≡_, refl, sym, ap, _∙_}
 use mathlib.Core.List.{List}
 use mathlib.Core.Logic.{_≢_}
-use mathlib.Core.Bool.{Bool, true, false, cond, _&&_, _||_}
-use Prim.Native.Nat.{ℕ, _+_, _-_, _*_, _≤_, _<_}
+use mathlib.Core.Bool.{Bool, true, false, cond, _&&_, _||_, false≢true}
+use Prim.Native.Nat.{ℕ, zero, suc, _+_, _-_, _*_, _≤_, _<_}
 use native.Mathlib.Omega.{arith}
 use lib.ListN.{length}
 use lib.Dec.{eqb, leb}
+use borrow.Author.Tests.{leb-true}
+use Rattle.words.specs.Tests.{and-l}
+use Rattle.records.specs.declared.Header.{Header}
 use Rattle.records.specs.declared.NodeIndex.{NodeIndex}
 use Rattle.records.specs.declared.ValueIndex.{ValueIndex}
 use Rattle.records.specs.declared.Refusal.{Refusal}
@@ -28,9 +31,11 @@ use Rattle.listing.specs.declared.Position.{Position}
 use Rattle.listing.specs.declared.Reached.{Reached}
 use Rattle.listing.specs.declared.Given.{Given}
 use Rattle.listing.specs.declared.Moved.{Moved}
+use Rattle.listing.specs.declared.Ready.{Ready}
+use Rattle.listing.specs.declared.Ready.the-variants.{Go, No}
 use Rattle.listing.specs.declared.Stepped.{Stepped}
 use Rattle.listing.specs.Position.{mostPlaces}
-use Rattle.listing.specs.Step.{liveMoved, leafMoved, cameMoved, openedMoved, movedOf, nearEnd, farEnd, withNear, refusedStep, openedStep, stepOf}
+use Rattle.listing.specs.Step.{popTo, liveMoved, leafMoved, cameMoved, openedMoved, movedOf, nearEnd, farEnd, withNear, refusedStep, openedStep, stepOf}
 
 -- ---- what the leaf comes to, without the stack
 
@@ -78,23 +83,63 @@ given-moved n ws s other o = go (o .came)
     go (visited.Inner x) = refl
     go visited.Damaged = refl
 
+-- ---- whether a step may pop a node
+
+-- there is one to pop where the listing has not ended and the stack is not empty
+unfoldable pub openedReady : Bool → ℕ → Opened → Ready
+openedReady ended count (Good h) = cond (ended || eqb count 0) (No no.Absent) (Go h)
+openedReady ended count (Shut r) = No r
+
+-- the shape, then the position's counts, then the header
+unfoldable pub readyOf : ℕ → ℕ → List ℕ → Bool → ℕ → ℕ → Ready
+readyOf m n ws ended count held =
+    cond (shapeOk m n (length ws)) (cond (leb count mostPlaces && leb held mostPlaces) (openedReady ended count (openOf m n ws)) (No no.Cursor)) (No no.Shape)
+
+-- what is known where a node is popped
+pub record Pops (m n : ℕ) (ws : List ℕ) (h : Header) (count : ℕ) : Type 0 where
+  pub shape : shapeOk m n (length ws) ≡ true
+  pub opened : openOf m n ws ≡ Good h
+  pub some : 1 ≤ count
+  pub most : count ≤ 129
+
+some-count : (ended : Bool) (count : ℕ) → ended || eqb count 0 ≡ false → 1 ≤ count
+some-count true count e = absurd (false≢true (sym e))
+some-count false zero e = absurd (false≢true (sym e))
+some-count false (suc count) e = omega arith
+
+pub ready-pops : (m n : ℕ) (ws : List ℕ) (ended : Bool) (count held : ℕ) (h : Header) → readyOf m n ws ended count held ≡ Go h → Pops m n ws h count
+unfolding readyOf openedReady
+ready-pops m n ws ended count held h e = go (shapeOk m n (length ws)) refl (leb count mostPlaces && leb held mostPlaces) refl (openOf m n ws) refl e
+  where
+    none : {A : Type 0} (r : Refusal) → No r ≡ Go h → A
+    none r d = let z : _≡_ {A = ℕ} 0 1 = cc in absurd (omega arith)
+
+    go : (shape : Bool) → shapeOk m n (length ws) ≡ shape → (fit : Bool) → leb count mostPlaces && leb held mostPlaces ≡ fit → (o : Opened) → openOf m n ws ≡ o
+        → cond shape (cond fit (openedReady ended count o) (No no.Cursor)) (No no.Shape) ≡ Go h → Pops m n ws h count
+    go false a fit b o f d = none no.Shape d
+    go true a false b o f d = none no.Cursor d
+    go true a true b (Shut r) f d = none r d
+    go true a true b (Good k) f d = last (ended || eqb count 0) refl d
+      where
+        last : (x : Bool) → ended || eqb count 0 ≡ x → cond x (No no.Absent) (Go k) ≡ Go h → Pops m n ws h count
+        last true c q = none no.Absent q
+        last false c q =
+            let same : k ≡ h = cc in record { shape = a; opened = f ∙ ap Good same; some = some-count ended count c; most = leb-true count 129 (and-l (leb count 129) (leb held 129) b) }
+
 -- ---- an end's step
 
 abbrev pub stayed : Stack → Bool → Refusal → Moved
 stayed s ended r = record { near = s; ended = ended; entry = entry.Refused r }
 
-unfoldable pub openedEnd : Bool → ℕ → List ℕ → Bool → Stack → ValueIndex → Opened → Moved
-openedEnd back n ws ended s other (Good h) = movedOf back n h ws ended s other
-openedEnd back n ws ended s other (Shut r) = stayed s ended r
+abbrev pub readyMoved : Bool → ℕ → List ℕ → Bool → Stack → ValueIndex → Ready → Moved
+readyMoved back n ws ended s other (Go h) = openedMoved n ws s other (popTo back h ws s)
+readyMoved back n ws ended s other (No r) = stayed s ended r
 
--- the shape, then the position's counts, then the header
 unfoldable pub endStep : Bool → ℕ → ℕ → List ℕ → Bool → Stack → ℕ → ValueIndex → Moved
-endStep back m n ws ended s held other =
-    cond (shapeOk m n (length ws))
-    (cond (leb (s .count) mostPlaces && leb held mostPlaces) (openedEnd back n ws ended s other (openOf m n ws)) (stayed s ended no.Cursor))
-    (stayed s ended no.Shape)
+endStep back m n ws ended s held other = readyMoved back n ws ended s other (readyOf m n ws ended (s .count) held)
 
--- the position's step is its near end's
+-- ---- the position's step is its near end's
+
 abbrev pub assembled : Bool → Position → Moved → Stepped
 assembled back p r = record { entry = r .entry; position = withNear back p r }
 
@@ -106,10 +151,16 @@ module _ (n : ℕ) (ws : List ℕ) (p : Position) where
   end-refused true r = refl
   end-refused false r = refl
 
-  end-opened : (b : Bool) (o : Opened) → openedStep b n ws p o ≡ assembled b p (openedEnd b n ws (p .ended) (nearEnd b p) (farEnd b p .last) o)
-  unfolding openedStep openedEnd
-  end-opened true (Good h) = refl
-  end-opened false (Good h) = refl
+  end-opened : (b : Bool) (o : Opened)
+      → openedStep b n ws p o ≡ assembled b p (readyMoved b n ws (p .ended) (nearEnd b p) (farEnd b p .last) (openedReady (p .ended) (nearEnd b p .count) o))
+  unfolding openedStep movedOf openedReady
+  end-opened b (Good h) = go (p .ended || eqb (nearEnd b p .count) 0)
+    where
+      go : (none : Bool)
+          → assembled b p (cond none (stayed (nearEnd b p) (p .ended) no.Absent) (openedMoved n ws (nearEnd b p) (farEnd b p .last) (popTo b h ws (nearEnd b p))))
+          ≡ assembled b p (readyMoved b n ws (p .ended) (nearEnd b p) (farEnd b p .last) (cond none (No no.Absent) (Go h)))
+      go true = refl
+      go false = refl
   end-opened b (Shut r) = end-refused b r
 
   -- both counts fit, whichever is asked first
@@ -124,14 +175,13 @@ module _ (n : ℕ) (ws : List ℕ) (p : Position) where
   fits false = refl
 
   pub end-step : (b : Bool) (m : ℕ) → stepOf b m n ws p ≡ assembled b p (nearStep b m n ws p)
-  unfolding stepOf endStep
+  unfolding stepOf endStep readyOf
   end-step b m = rw (fits b) (go (shapeOk m n (length ws)) (leb (p .front .count) mostPlaces && leb (p .back .count) mostPlaces))
     where
       go : (shape fit : Bool) → cond shape (cond fit (openedStep b n ws p (openOf m n ws)) (refusedStep p no.Cursor)) (refusedStep p no.Shape)
           ≡ assembled b p
-          (cond shape
-          (cond fit (openedEnd b n ws (p .ended) (nearEnd b p) (farEnd b p .last) (openOf m n ws)) (stayed (nearEnd b p) (p .ended) no.Cursor))
-          (stayed (nearEnd b p) (p .ended) no.Shape))
+          (readyMoved b n ws (p .ended) (nearEnd b p) (farEnd b p .last)
+          (cond shape (cond fit (openedReady (p .ended) (nearEnd b p .count) (openOf m n ws)) (No no.Cursor)) (No no.Shape)))
       go true true = end-opened b (openOf m n ws)
       go true false = end-refused b no.Cursor
       go false fit = end-refused b no.Shape

@@ -3,13 +3,15 @@
 use mathlib.Core.Path.{_≡_, refl, sym, ap, _∙_}
 use mathlib.Core.List.{List}
 use mathlib.Core.Logic.{inl}
-use mathlib.Core.Bool.{Bool, true, false, cond, _&&_, _||_, not, false≢true}
+use mathlib.Core.Bool.{Bool, true, false, cond, _&&_, not, false≢true}
 use Prim.Native.Nat.{ℕ, zero, suc, _+_, _-_, _≤_, _<_}
 use native.Mathlib.Omega.{arith}
-use lib.ListN.{set}
-use lib.Dec.{eqb, leb, ltb}
-use borrow.Author.Tests.{leb-true, ltb-true, eqb-true}
+use lib.ListN.{length, set}
+use lib.Dec.{leb, ltb}
+use borrow.Author.Tests.{leb-true, ltb-true}
 use Rattle.words.specs.Tests.{and-l, and-r}
+use Rattle.words.specs.Words.{words}
+use Rattle.records.specs.Layout.{imageOf}
 use Rattle.records.specs.declared.Header.{Header}
 use Rattle.records.specs.declared.Node.{Node}
 use Rattle.records.specs.declared.NodeIndex.{NodeIndex}
@@ -19,15 +21,16 @@ use Rattle.inspection.specs.declared.Visited.{Visited}
 use Rattle.inspection.specs.declared.Visited.the-variants as visited
 use Rattle.inspection.specs.Tests.{formOk, nodeOk}
 use Rattle.inspection.specs.Visit.{visitOf, firstOf, visit-passed, first-passed}
+use Rattle.inspection.specs.Room.{Room, room, image-words}
 use Rattle.listing.specs.declared.Stack.{Stack}
 use Rattle.listing.specs.declared.Opens.{Opens}
 use Rattle.listing.specs.declared.Opens.the-variants.{On, Came, Spoiled}
 use Rattle.listing.specs.declared.Reached.{Reached}
 use Rattle.listing.specs.declared.Given.{Given}
-use Rattle.listing.specs.declared.Moved.{Moved}
+use Rattle.listing.specs.declared.Ready.the-variants.{Go}
 use Rattle.listing.specs.Position.{mostPlaces}
 use Rattle.listing.specs.Step.{nearOf, farOf, openTurn, reachedAt, openBy, openTo, topOf, popTo, openedMoved}
-use Rattle.listing.specs.Ends.{givenOf, given, given-moved}
+use Rattle.listing.specs.Ends.{givenOf, given, given-moved, endStep, readyOf, readyMoved, ready-pops}
 
 -- how far an opening has come: a node's prefix length, and 128 where there is nothing to open
 abbrev pub reachOf : Visited → ℕ
@@ -100,12 +103,12 @@ module _ (back : Bool) (h : Header) (ws : List ℕ) (s : Stack) (places : List N
               enough = omega (arith, opens-nearer .0);
               within = opens-nearer .1;
               room = omega (arith, opens-room);
-              rest = sym (ap (openBy (λ w x v. openTo f back h ws (set (set places count w) (count + 1) x) (count + 1) x v) places count i) e) ∙ r;
+              rest = sym (ap (openBy (λ w x v. openTo f back h ws (set (set places count w) (count + 1) x) (count + 1) x v) places count i came) e) ∙ r;
             }
 
   -- the last turn
   pub opens-last : (t : Opens) → openTurn back h ws count i came ≡ t → (v : Visited)
-      → ((go : NodeIndex → NodeIndex → Visited → Reached) → openBy go places count i t ≡ reachedAt v places count i) → reachedAt v places count i ≡ popTo back h ws s
+      → ((go : NodeIndex → NodeIndex → Visited → Reached) → openBy go places count i came t ≡ reachedAt v places count i) → reachedAt v places count i ≡ popTo back h ws s
   unfolding openTo
   opens-last t e v last = end (o .fuel) (o .enough) (o .rest)
     where
@@ -113,20 +116,18 @@ module _ (back : Bool) (h : Header) (ws : List ℕ) (s : Stack) (places : List N
       end zero n r = absurd (omega (arith, o .within))
       end (suc f) n r =
           sym (last (λ w x u. openTo f back h ws (set (set places count w) (count + 1) x) (count + 1) x u))
-          ∙ sym (ap (openBy (λ w x u. openTo f back h ws (set (set places count w) (count + 1) x) (count + 1) x u) places count i) e)
+          ∙ sym (ap (openBy (λ w x u. openTo f back h ws (set (set places count w) (count + 1) x) (count + 1) x u) places count i came) e)
           ∙ r
 
--- where it ends, the step is what the leaf comes to
-pub landed : (back : Bool) (h : Header) (ws : List ℕ) (s : Stack) (places : List NodeIndex) (count : ℕ) (i : NodeIndex) (v : Visited) (n : ℕ) (other : ValueIndex)
-    → reachedAt v places count i ≡ popTo back h ws s → openedMoved n ws s other (popTo back h ws s) ≡ given s (reachedAt v places count i) (givenOf n ws v i (s .last) other)
-landed back h ws s places count i v n other e = rw (sym e) (given-moved n ws s other (reachedAt v places count i))
-
--- the parts of what the leaf comes to, put together
-pub finished : (s : Stack) (o : Reached) (g g′ : Given) (whole : Moved) (places : List NodeIndex) (count : ℕ) → whole ≡ given s o g′ → g ≡ g′
-    → places ≡ cond (g .moves) (o .places) (s .places) → count ≡ cond (g .moves) (o .count) (s .count)
-    → record { near = record { places = places; count = count; last = g .last }; ended = g .ended; entry = g .entry } ≡ whole
-finished s o g g′ whole places count w e p c =
-    (λ ι. record { near = record { places = p ι; count = c ι; last = g .last }; ended = g .ended; entry = g .entry }) ∙ ap (given s o) e ∙ sym w
+-- where it ends, the step is what the leaf comes to, put together of its parts
+pub finished : (back : Bool) (h : Header) (ws : List ℕ) (s : Stack) (places : List NodeIndex) (count : ℕ) (i : NodeIndex) (v : Visited) (n : ℕ) (other : ValueIndex)
+    → reachedAt v places count i ≡ popTo back h ws s → (g : Given) → g ≡ givenOf n ws v i (s .last) other → (places′ : List NodeIndex) (count′ : ℕ)
+    → places′ ≡ cond (g .moves) places (s .places) → count′ ≡ cond (g .moves) count (s .count)
+    → record { near = record { places = places′; count = count′; last = g .last }; ended = g .ended; entry = g .entry } ≡ openedMoved n ws s other (popTo back h ws s)
+finished back h ws s places count i v n other e g k places′ count′ p c =
+    (λ ι. record { near = record { places = p ι; count = c ι; last = g .last }; ended = g .ended; entry = g .entry }) ∙ ap (given s (reachedAt v places count i)) k
+    ∙ sym (given-moved n ws s other (reachedAt v places count i))
+    ∙ ap (openedMoved n ws s other) e
 
 pub kept-back : {A : Type 0} (b : Bool) (x y : A) → not b ≡ true → y ≡ cond b x y
 kept-back true x y e = absurd (false≢true e)
@@ -136,19 +137,24 @@ pub kept-on : {A : Type 0} (b : Bool) (x y : A) → not b ≡ false → x ≡ co
 kept-on true x y e = refl
 kept-on false x y e = absurd (false≢true (sym e))
 
--- neither ended nor empty
-pub neither : (a b : Bool) → not a && not b ≡ true → a || b ≡ false
-neither true b e = absurd (false≢true e)
-neither false true e = absurd (false≢true e)
-neither false false e = refl
+-- ---- a step that pops a node
 
-pub one-of : (a b : Bool) → not a && not b ≡ false → a || b ≡ true
-one-of true b e = refl
-one-of false true e = refl
-one-of false false e = absurd (false≢true (sym e))
+module _ (m n : ℕ) (bytes : List ℕ) (ended : Bool) (held : ℕ) (h : Header) where
+  -- the header's nodes lie inside
+  pub ready-room : (count : ℕ) → readyOf m n (imageOf bytes) ended count held ≡ Go h → Room h (length (words bytes))
+  ready-room count e =
+      let k = ready-pops m n (imageOf bytes) ended count held h e in rw (sym (image-words m n bytes (k .shape))) (room m n (imageOf bytes) h (k .opened))
 
--- a stack that is not empty, where the listing has not ended
-pub some-count : (ended : Bool) (count : ℕ) → ended || eqb count 0 ≡ false → 1 ≤ count
-some-count true count e = absurd (false≢true (sym e))
-some-count false zero e = absurd (false≢true (sym e))
-some-count false (suc count) e = omega arith
+  -- there is a node to pop, and a place for it
+  pub ready-count : (count : ℕ) → readyOf m n (imageOf bytes) ended count held ≡ Go h → (1 ≤ count) × (count ≤ 129)
+  ready-count count e = let k = ready-pops m n (imageOf bytes) ended count held h e in (k .some, k .most)
+
+  -- the step is what popping comes to
+  pub ready-moved : (back : Bool) (s : Stack) (other : ValueIndex) → readyOf m n (imageOf bytes) ended (s .count) held ≡ Go h
+      → openedMoved n (words bytes) s other (popTo back h (words bytes) s) ≡ endStep back m n (imageOf bytes) ended s held other
+  unfolding endStep
+  ready-moved back s other e =
+      let k = ready-pops m n (imageOf bytes) ended (s .count) held h e in
+      sym
+      (ap (readyMoved back n (imageOf bytes) ended s other) e
+      ∙ ap (λ ws. openedMoved n ws s other (popTo back h ws s)) (image-words m n bytes (k .shape)))

@@ -46,22 +46,22 @@ openTurn back h ws count i (visited.Inner x) =
     cond ((leb (count + 2) mostPlaces && ltb (x .prefix) 128) && nodeOk h ws (farOf back x .0) (i .0) (x .prefix + 1))
     (On (farOf back x) (nearOf back x) (visitOf h ws (nearOf back x .0) (i .0) (x .prefix + 1)))
     Spoiled
-openTurn back h ws count i (visited.Leaf x) = Came x
+openTurn back h ws count i (visited.Leaf x) = Came
 openTurn back h ws count i visited.Damaged = Spoiled
 
 abbrev pub reachedAt : Visited → List NodeIndex → ℕ → NodeIndex → Reached
 reachedAt came places count i = record { came = came; places = places; count = count; leaf = i }
 
-abbrev pub openBy : (NodeIndex → NodeIndex → Visited → Reached) → List NodeIndex → ℕ → NodeIndex → Opens → Reached
-openBy go places count i (On wait next came) = go wait next came
-openBy go places count i (Came x) = reachedAt (visited.Leaf x) places count i
-openBy go places count i Spoiled = reachedAt visited.Damaged places count i
+abbrev pub openBy : (NodeIndex → NodeIndex → Visited → Reached) → List NodeIndex → ℕ → NodeIndex → Visited → Opens → Reached
+openBy go places count i came (On wait next what) = go wait next what
+openBy go places count i came Came = reachedAt came places count i
+openBy go places count i came Spoiled = reachedAt visited.Damaged places count i
 
 -- from node i on, which a visit found to be `came`
 unfoldable pub openTo : ℕ → Bool → Header → List ℕ → List NodeIndex → ℕ → NodeIndex → Visited → Reached
 openTo zero back h ws places count i came = reachedAt visited.Damaged places count i
 openTo (suc fuel) back h ws places count i came =
-    openBy (λ wait next what. openTo fuel back h ws (set (set places count wait) (count + 1) next) (count + 1) next what) places count i (openTurn back h ws count i came)
+    openBy (λ wait next what. openTo fuel back h ws (set (set places count wait) (count + 1) next) (count + 1) next what) places count i came (openTurn back h ws count i came)
 
 -- The first node that a call pops has no known parent: it passes the visited-node test without Parent, prefix order and the root's rule. Prefix lengths rise
 -- from there: 129 nodes at most.

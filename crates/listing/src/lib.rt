@@ -1,12 +1,13 @@
 // Listing from both ends: a position that is made from an image and stepped at its front or its back, one entry a step.
-pub mod open; // open.rt: popping and opening nodes until a leaf comes
-pub mod step; // step.rt: making a position, and a step at an end
+pub mod open; // open.rt: opening one node, and what a leaf comes to
+pub mod step; // step.rt: making a position, and a step at an end: popping and opening nodes until a leaf comes
 
 use inspection::Visited;
 use records::Done;
 use records::Entry;
-use records::Node;
+use records::Header;
 use records::NodeIndex;
+use records::Refusal;
 use records::ValueIndex;
 
 // One end of a listing: the nodes that are still to be opened, the next one last, and the value record that was given last (0 for none). Places at or above `count` are
@@ -35,11 +36,17 @@ pub struct Stepped {
     pub position: Position,
 }
 
-// One node's answer while a stack is opened: the child that waits, the child that is opened next and what it is; the leaf; or damage.
+// One node's answer while a stack is opened: the child that waits, the child that is opened next and what it is; that it is the leaf; or damage.
 pub enum Opens {
     On(NodeIndex, NodeIndex, Visited),
-    Came(Node),
+    Came,
     Spoiled,
+}
+
+// Whether a step may pop a node: the header, or why not.
+pub enum Ready {
+    Go(Header),
+    No(Refusal),
 }
 
 // Where a stack stands when its leaf has come, for the definitions: the leaf or damage, the places and the count as popped and opened so far, and

@@ -1,14 +1,19 @@
 // Making a position, and a step at an end.
 use crate::Made;
 use crate::Moved;
+use crate::Opens;
 use crate::Position;
+use crate::Ready;
 use crate::Stack;
 use crate::Stepped;
-use crate::open::popped;
+use crate::open::given;
+use crate::open::open_turn;
 use inspection::Opened;
+use inspection::Visited;
 use inspection::open::is_image;
 use inspection::open::open_image;
 use inspection::open::open_shaped;
+use inspection::visit::visit_first;
 use records::Done;
 use records::Entry;
 use records::NodeIndex;
@@ -23,7 +28,7 @@ ghost use Rattle.records.specs.Layout.{imageOf};
 ghost use Rattle.inspection.specs.Room.{Room};
 ghost use Rattle.listing.specs.Position.{emptyStack, rootStack, bothEnds, openedMade, madeOf};
 ghost use Rattle.listing.specs.Step.{stepOf};
-ghost use Rattle.listing.specs.Ends.{endStep};
+ghost use Rattle.listing.specs.Ends.{readyOf, endStep};
 
 // ---- making a position
 
@@ -85,7 +90,35 @@ pub fn list(img: &[u8], m: u32, n: u32) -> Made
 
 // ---- a step
 
-// A step at one end, whose stack is `s`; the other end has so many places, and gave `other` last. The shape, then the position, then the header.
+// Whether a step may pop a node: the shape, then the position, then the header; then whether there is a node to pop.
+fn ready(img: &[u8], m: u32, n: u32, ended: bool, count: u32, held: u32) -> Ready
+    ensures { λ r. ⌜ r ≡ readyOf m n (imageOf (now (img .entry))) ended count held ⌝ }
+{
+    if is_image(img, m, n) {
+        if count <= 129 {
+            if held <= 129 {
+                match open_shaped(img, m, n) {
+                    Opened::Good(h) => {
+                        if !ended {
+                            if count != 0 {
+                                return Ready::Go(h);
+                            }
+                        }
+                        return Ready::No(Refusal::Absent);
+                    }
+                    Opened::Shut(q) => {
+                        return Ready::No(q);
+                    }
+                }
+            }
+        }
+        return Ready::No(Refusal::Cursor);
+    }
+    Ready::No(Refusal::Shape)
+}
+
+// A step at one end, whose stack is `s`; the other end has so many places, and gave `other` last. The next node is popped, and nodes are opened from there on
+// until a leaf comes. The stack is copied once and written in place; it goes back as it came where a test fails.
 fn step(
     img: &[u8],
     m: u32,
@@ -98,27 +131,50 @@ fn step(
 ) -> Moved
     ensures { λ r. ⌜ r ≡ endStep back m n (imageOf (now (img .entry))) ended s held other ⌝ }
 {
-    let mut r = Refusal::Shape;
-    if is_image(img, m, n) {
-        r = Refusal::Cursor;
-        if (s.count <= 129) & (held <= 129) {
-            match open_shaped(img, m, n) {
-                Opened::Good(h) => {
-                    if (!ended) & (s.count != 0) {
-                        return popped(img, n, h, back, s, other);
-                    }
-                    r = Refusal::Absent;
-                }
-                Opened::Shut(q) => {
-                    r = q;
-                }
+    let h = match ready(img, m, n, ended, s.count, held) {
+        Ready::Go(h) => h,
+        Ready::No(r) => return Moved {
+            near: s,
+            ended,
+            entry: Entry::Refused(r),
+        },
+    };
+    let mut places = s.places;
+    let mut count = s.count - 1;
+    let top = count as usize;
+    let mut i = places[top];
+    let mut came = visit_first(img, h, i);
+    let reached = loop {
+        match open_turn(img, h, back, count, i, came) {
+            Opens::On(wait, next, what) => {
+                let at = count as usize;
+                places[at] = wait;
+                places[at + 1] = next;
+                count += 1;
+                i = next;
+                came = what;
             }
+            Opens::Came => break came,
+            Opens::Spoiled => break Visited::Damaged,
         }
+    };
+    let given_last = s.last;
+    let g = given(img, n, reached, i, given_last, other);
+    if !g.moves {
+        let before = s.places;
+        places = before;
+        count = s.count;
     }
+    let entry = g.entry;
+    let last = g.last;
     Moved {
-        near: s,
-        ended,
-        entry: Entry::Refused(r),
+        near: Stack {
+            places,
+            count,
+            last,
+        },
+        ended: g.ended,
+        entry,
     }
 }
 

@@ -30,11 +30,11 @@ returns : tie.Need-returns
 unfolding openTurn
 returns c = simp (c .before .before .before .before .before .before .before .before .before .before .came .given .1, le-leb _ _ (c .before .before .before .before .before .before .before .before .if1 .taken), lt-ltb _ _ (c .before .before .before .before .before .before .if2 .taken), ← c .before .before .before .before .far .ensures, ← c .before .before .before .node-ok .ensures, c .before .before .if3 .taken) (cc)
 
-enum-known-came-2 : tie.Need-enum-known-came-2
-enum-known-came-2 c = search needs
-
 enum-told : tie.Need-enum-told
 enum-told c = search needs
+
+enum-told-2 : tie.Need-enum-told-2
+enum-told-2 c = search needs
 
 returns-2 : tie.Need-returns-2
 unfolding openTurn
@@ -50,11 +50,11 @@ returns-4 c = simp (c .before .before .came .given .1, lt-leb _ _ (c .if1 .left)
 
 returns-5 : tie.Need-returns-5
 unfolding openTurn
-returns-5 c = simp (c .before .came2 .given .1)
+returns-5 c = simp (c .enum-told .given .1)
 
 returns-6 : tie.Need-returns-6
 unfolding openTurn
-returns-6 c = simp (c .enum-told .given .1)
+returns-6 c = simp (c .enum-told2 .given .1)
 
 pub open-turn-spec : {M : Type 1} → statement M
 open-turn-spec =
@@ -68,8 +68,8 @@ open-turn-spec =
     near-requires
     visit-requires
     returns
-    enum-known-came-2
     enum-told
+    enum-told-2
     returns-2
     returns-3
     returns-4
