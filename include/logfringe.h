@@ -57,7 +57,7 @@ extern "C" {
  *
  * What lies behind the first 16 bytes is never touched.
  *
- * Stack: up to 512 bytes; some 190 in this archive.
+ * Stack: up to 512 bytes; some 110 in this archive.
  */
 uint32_t logfringe_get(const uint8_t *img, size_t img_len, uint32_t m, uint32_t n, uint64_t high, uint64_t low,
                        uint8_t *out, size_t out_len);
@@ -73,7 +73,7 @@ uint32_t logfringe_get(const uint8_t *img, size_t img_len, uint32_t m, uint32_t 
  * What lies behind the first 4 * m bytes is never touched.
  *
  * Stack: up to 48 KiB. The check walks the tree by recursion, one level for each node of a path, at most 129 whatever the image holds.
- * A level takes 304 bytes in this archive (by its disassembly), 129 of them and the rest some 39 KiB; board_test/run measures it. A map
+ * A level takes 288 bytes in this archive (by its disassembly), 129 of them and the rest some 37 KiB; board_test/run measures it. A map
  * whose paths are shorter takes less, but a damaged image can claim a path of 129.
  */
 uint32_t logfringe_check(const uint8_t *img, size_t img_len, uint32_t m, uint32_t n, uint8_t *scratch,
