@@ -30,7 +30,7 @@ use Rattle.accepted_lookup.specs.Descents.{at}
 use Rattle.accepted_listing.specs.Parts.{Named, named-pushed}
 
 -- what is reached when a pop gives x: the leaf of its entry, and the stack that it leaves
-pub record Opens (x : Entry × List Tree) (o : Reached) : Type 0 where
+pub record Reaches (x : Entry × List Tree) (o : Reached) : Type 0 where
   pub above : ℕ
   pub came : o .came ≡ visited.Leaf (leafNode above (x .0 .0) (x .0 .1))
   pub room : length (o .places) ≡ 129
@@ -75,14 +75,14 @@ module _ (h : Header) (ws : List ℕ) (clean : Clean h ws) where
       → kindOf (nodeOf ws i) ≡ visited.Inner x → nearOf back x ≡ at (top near) → farOf back x ≡ at (top far) → length (near ∷ far ∷ s) ≤ 129 → x .prefix < 128
       → Holds h ws i (x .prefix + 1) near → Holds h ws i (x .prefix + 1) far → length places ≡ 129 → Named places s
       → ((put : List NodeIndex) → length put ≡ 129 → Named put (far ∷ s)
-      → Opens (popped back near (far ∷ s)) (openTo fuel back h ws put (length (far ∷ s)) (at (top near)) (there near)))
-      → Opens (popped back near (far ∷ s)) (openTo (suc fuel) back h ws places (length s) (at i) (kindOf (nodeOf ws i)))
+      → Reaches (popped back near (far ∷ s)) (openTo fuel back h ws put (length (far ∷ s)) (at (top near)) (there near)))
+      → Reaches (popped back near (far ∷ s)) (openTo (suc fuel) back h ws places (length s) (at i) (kindOf (nodeOf ws i)))
   through back fuel places s i x near far e n f l p k q r named go =
       rw (e, opened-inner back fuel places s i x near far n f (omega arith) p k q)
       (go (set (set places (length s) (at (top far))) (length s + 1) (at (top near))) (simp length-set r) (named-pushed places far (at (top near)) s (omega arith) named))
 
   pub opens : (back : Bool) (fuel : ℕ) (places : List NodeIndex) (s : List Tree) (t : Tree) (parent low : ℕ) → length places ≡ 129 → Named places s → All Small (passed back t s)
-      → depth t ≤ fuel → Holds h ws parent low t → Opens (popped back t s) (openTo fuel back h ws places (length s) (at (top t)) (kindOf (nodeOf ws (top t))))
+      → depth t ≤ fuel → Holds h ws parent low t → Reaches (popped back t s) (openTo fuel back h ws places (length s) (at (top t)) (kindOf (nodeOf ws (top t))))
   unfolding Holds
   opens back zero places s (leaf i key v) parent low r q b d k = absurd (omega arith)
   opens back zero places s (inner i key p l y) parent low r q b d k = absurd (omega arith)

@@ -40,7 +40,7 @@ use Rattle.accepted.specs.Tests.{shape-passes, live-passes}
 use Rattle.accepted_lookup.specs.Answers.{nodes-entries, size-some}
 use Rattle.accepted_lookup.specs.Descents.{at}
 use Rattle.accepted_listing.specs.Parts.{PartOf, HeldPart, part-whole, map-children, map-entries, map-held, Named}
-use Rattle.accepted_listing.specs.Opens.{Opens, opens}
+use Rattle.accepted_listing.specs.Opens.{Reaches, opens}
 
 -- ---- one end, and both
 
@@ -86,7 +86,7 @@ module _ {m n : ℕ} {ws : List ℕ} (a : Accepted m n ws) where
 
   -- the popped tree is held, and is opened until its leaf comes
   popped-to : (back : Bool) (t : Tree) (s : List Tree) (last : ℕ) (st : Stack) → SameEnd (a .tree) (record { stack = t ∷ s; last = last }) st → Perched (t ∷ s)
-      → All Small (passed back t s) → Opens (popped back t s) (popTo back (headerOf n ws) ws st)
+      → All Small (passed back t s) → Reaches (popped back t s) (popTo back (headerOf n ws) ws st)
   unfolding popTo firstOf
   popped-to back t s last st e q b =
       let one : st .count - 1 ≡ length s = omega (arith, e .counted) in
@@ -101,7 +101,7 @@ module _ {m n : ℕ} {ws : List ℕ} (a : Accepted m n ws) where
   parts-left back t s h = popped-all (PartOf (a .tree)) (map-children (a .tree)) back t s h
 
   -- the ends meet, or the entry is given: its value record is live
-  leaf-moved : (x : Entry × List Tree) (last other : ℕ) (st : Stack) (far : ValueIndex) (o : Reached) → Opens x o → st .last ≡ record { 0 = last } → far .0 ≡ other
+  leaf-moved : (x : Entry × List Tree) (last other : ℕ) (st : Stack) (far : ValueIndex) (o : Reached) → Reaches x o → st .last ≡ record { 0 = last } → far .0 ≡ other
       → Live (valueRecordOf n ws (x .0 .1)) → All (PartOf (a .tree)) (x .1) → Moves (cond (eqb (x .0 .1) other) (meets x last) (gives x)) (openedMoved n ws st far o)
   unfolding openedMoved leafMoved liveMoved liveOf
   leaf-moved x last other st far o g l f v parts =

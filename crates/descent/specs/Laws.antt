@@ -13,7 +13,7 @@ use Rattle.keys.specs.declared.Key.{Key}
 use Rattle.keys.specs.Number.{numberOf}
 use Rattle.keys.specs.declared.Way.the-variants.{Parts}
 use Rattle.keys.specs.Common.{common}
-use Rattle.keys.specs.Ways.{sideOf, wayOf, way-parts, way-side}
+use Rattle.keys.specs.Ways.{wayTo, wayOf, way-parts, way-side}
 use Rattle.records.specs.declared.Header.{Header}
 use Rattle.records.specs.declared.Node.{Node}
 use Rattle.records.specs.declared.NodeIndex.{NodeIndex}
@@ -26,7 +26,7 @@ use Rattle.descent.specs.declared.Stop.{Stop}
 use Rattle.descent.specs.declared.Stop.the-variants.{Parted, Damaged}
 use Rattle.descent.specs.declared.Turn.{Turn}
 use Rattle.descent.specs.declared.Turn.the-variants.{Down, Halt}
-use Rattle.descent.specs.Descent.{isInner, childOf, sharedWith, lookupTurn, turnAt, follow, descend}
+use Rattle.descent.specs.Descent.{isInner, childOf, sideOf, sharedWith, lookupTurn, turnAt, follow, descend}
 
 -- ---- a turn goes down from an inner node alone, and to the next longer prefix
 
@@ -109,8 +109,8 @@ module _ (key : Key) (h : Header) (ws : List ℕ) (i above : NodeIndex) (low : �
   abbrev found : (turnAt (lookupTurn key) h ws i above low ≡ lookupTurn key i x) × (isInner x ≡ true) × (x .prefix < 128)
   found = turn-inner (lookupTurn key) h ws i above low x e
 
-  pub turn-side : (one : Bool) → wayOf (numberOf key) (numberOf (x .key)) (x .prefix) ≡ sideOf one
-      → turnAt (lookupTurn key) h ws i above low ≡ Down (cond one (x .right) (x .left)) (x .prefix + 1)
+  pub turn-side : (one : Bool) → wayOf (numberOf key) (numberOf (x .key)) (x .prefix) ≡ wayTo one
+      → turnAt (lookupTurn key) h ws i above low ≡ Down (sideOf one x) (x .prefix + 1)
   unfolding lookupTurn childOf
   turn-side one q =
       let way = way-side (numberOf key) (numberOf (x .key)) (x .prefix) one q in

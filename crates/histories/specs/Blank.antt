@@ -19,7 +19,7 @@ use Rattle.records.specs.Records.{headerOf}
 use Rattle.inspection.specs.Tests.{frontOk, spareOk, headerOk, topOk}
 use Rattle.inspection.specs.Room.{Shaped}
 use Rattle.inspection.specs.Opening.{openOf, blankOf}
-use Rattle.inspection.specs.Answers.{Opens, misshapen, unsound, sound, opens}
+use Rattle.inspection.specs.Answers.{OpensAs, misshapen, unsound, sound, opens}
 use Rattle.lookup.specs.Start.{startOf, doneImage, startImage, lengthOf, openedLength, capacityReply, openedCapacity}
 use Rattle.lookup.specs.Get.{targetOf, openedTarget, targetGot, getOf, targetDone, writeOf, targetImage, writeImage, openedDone, containsOf, openedPlace, addrOf}
 use Rattle.lookup.specs.Ends.{openedEntry, endEntry}
@@ -66,7 +66,7 @@ module _ (m n : ℕ) (ws : List ℕ) (shape : Shaped m n (length ws)) (blank : B
   pub shut-blank : openOf m n ws ≡ Shut no.Damaged
   shut-blank = go (opens m n ws)
     where
-      go : Opens m n ws → openOf m n ws ≡ Shut no.Damaged
+      go : OpensAs m n ws → openOf m n ws ≡ Shut no.Damaged
       go (misshapen p o) = absurd (true≢false (sym (shape-passes shape) ∙ p))
       go (unsound p q o) = o
       go (sound h p q o) = absurd (omega (arith, header-rules m n (headerOf n ws) (header-part q) .nodes .bump-some, bump-word n ws, blank 6))

@@ -21,7 +21,7 @@ use Rattle.records.specs.Layout.{imageOf}
 use Rattle.inspection.specs.Tests.{shapeOk, topOk, kidsOk, liveValue}
 use Rattle.records.specs.Numbers.{refusalNumber, placeNumber, placeIndex}
 use Rattle.inspection.specs.Opening.{openShaped, openOf}
-use Rattle.inspection.specs.Answers.{Opens, misshapen, unsound, sound, opens}
+use Rattle.inspection.specs.Answers.{OpensAs, misshapen, unsound, sound, opens}
 use Rattle.inspection.specs.Outcome.{Leaves, one-outcome}
 use Rattle.inspection.specs.Room.{opened-whole}
 use Rattle.descent.specs.declared.Stop.{Stop}
@@ -124,7 +124,7 @@ module _ (m n : ℕ) (ws : List ℕ) (key : Key) where
       rest h o (no d) false g = (2, inr (record { header = h; opens = o; room = d; tests = g }))
       rest h o (no d) true g = (0, record { header = h; opens = o; room = d; tests = g })
 
-      go : Opens m n ws → (k : ℕ) × When m n ws key k
+      go : OpensAs m n ws → (k : ℕ) × When m n ws key k
       go (misshapen p o) = (1, p)
       go (unsound p q o) = (2, inl (record { shape = p; header = q }))
       go (sound h p q o) = rest h o (ℕ-discrete (h .values .size) m) (stopTests m n h ws (findOf h ws key)) refl

@@ -17,16 +17,16 @@ use Rattle.inspection.specs.Opening.{openShaped, openOf}
 use Rattle.records.specs.Numbers.{refusalNumber}
 
 -- the three ways in which an opening goes
-pub data Opens (m n : ℕ) (ws : List ℕ) : Type 0 where
-  misshapen : shapeOk m n (length ws) ≡ false → openOf m n ws ≡ Shut no.Shape → Opens m n ws
-  unsound : shapeOk m n (length ws) ≡ true → topOk m n ws ≡ false → openOf m n ws ≡ Shut no.Damaged → Opens m n ws
-  sound : (h : Header) → shapeOk m n (length ws) ≡ true → topOk m n ws ≡ true → openOf m n ws ≡ Good h → Opens m n ws
+pub data OpensAs (m n : ℕ) (ws : List ℕ) : Type 0 where
+  misshapen : shapeOk m n (length ws) ≡ false → openOf m n ws ≡ Shut no.Shape → OpensAs m n ws
+  unsound : shapeOk m n (length ws) ≡ true → topOk m n ws ≡ false → openOf m n ws ≡ Shut no.Damaged → OpensAs m n ws
+  sound : (h : Header) → shapeOk m n (length ws) ≡ true → topOk m n ws ≡ true → openOf m n ws ≡ Good h → OpensAs m n ws
 
-pub opens : (m n : ℕ) (ws : List ℕ) → Opens m n ws
+pub opens : (m n : ℕ) (ws : List ℕ) → OpensAs m n ws
 unfolding openOf openShaped
 opens m n ws = go (shapeOk m n (length ws)) (topOk m n ws) refl refl
   where
-    go : (a b : Bool) → shapeOk m n (length ws) ≡ a → topOk m n ws ≡ b → Opens m n ws
+    go : (a b : Bool) → shapeOk m n (length ws) ≡ a → topOk m n ws ≡ b → OpensAs m n ws
     go false b p q = misshapen p (rw p)
     go true false p q = unsound p q (rw (p, q))
     go true true p q = sound (headerOf n ws) p q (rw (p, q))
@@ -38,12 +38,12 @@ module _ (f : Opened → ℕ) (shut : (r : Refusal) → f (Shut r) ≡ refusalNu
   unfolding refusalNumber
   shape-exactly never = (λ e. only (opens m n ws) e, λ p. when (opens m n ws) p)
     where
-      only : Opens m n ws → f (openOf m n ws) ≡ 1 → shapeOk m n (length ws) ≡ false
+      only : OpensAs m n ws → f (openOf m n ws) ≡ 1 → shapeOk m n (length ws) ≡ false
       only (misshapen p q) e = p
       only (unsound p q o) e = let z : _≡_ {A = ℕ} 2 1 = sym (shut no.Damaged) ∙ sym (ap f o) ∙ e in absurd (omega arith)
       only (sound h p q o) e = absurd (never h (sym (ap f o) ∙ e))
 
-      when : Opens m n ws → shapeOk m n (length ws) ≡ false → f (openOf m n ws) ≡ 1
+      when : OpensAs m n ws → shapeOk m n (length ws) ≡ false → f (openOf m n ws) ≡ 1
       when (misshapen p q) e = ap f q ∙ shut no.Shape
       when (unsound p q o) e = absurd (true≢false (sym p ∙ e))
       when (sound h p q o) e = absurd (true≢false (sym p ∙ e))
@@ -57,12 +57,12 @@ module _ (f : Opened → ℕ) (shut : (r : Refusal) → f (Shut r) ≡ refusalNu
       Cause : Type 0
       Cause = ((shapeOk m n (length ws) ≡ true) × (topOk m n ws ≡ false)) ⊎ ((h : Header) × (openOf m n ws ≡ Good h) × (f (Good h) ≡ 2))
 
-      only : Opens m n ws → f (openOf m n ws) ≡ 2 → Cause
+      only : OpensAs m n ws → f (openOf m n ws) ≡ 2 → Cause
       only (misshapen p q) e = let z : _≡_ {A = ℕ} 1 2 = sym (shut no.Shape) ∙ sym (ap f q) ∙ e in absurd (omega arith)
       only (unsound p q o) e = inl (p, q)
       only (sound h p q o) e = inr (h, o, sym (ap f o) ∙ e)
 
-      when : Opens m n ws → Cause → f (openOf m n ws) ≡ 2
+      when : OpensAs m n ws → Cause → f (openOf m n ws) ≡ 2
       when (misshapen p q) (inl c) = absurd (true≢false (sym (c .0) ∙ p))
       when (unsound p q o) (inl c) = ap f o ∙ shut no.Damaged
       when (sound h p q o) (inl c) = absurd (true≢false (sym q ∙ c .1))
@@ -73,7 +73,7 @@ module _ (f : Opened → ℕ) (shut : (r : Refusal) → f (Shut r) ≡ refusalNu
   unfolding refusalNumber
   other-exactly k one two = (λ e. only (opens m n ws) e, λ c. ap f (c .1) ∙ c .2)
     where
-      only : Opens m n ws → f (openOf m n ws) ≡ k → (h : Header) × (openOf m n ws ≡ Good h) × (f (Good h) ≡ k)
+      only : OpensAs m n ws → f (openOf m n ws) ≡ k → (h : Header) × (openOf m n ws ≡ Good h) × (f (Good h) ≡ k)
       only (misshapen p q) e = absurd (one (sym (sym (shut no.Shape) ∙ sym (ap f q) ∙ e)))
       only (unsound p q o) e = absurd (two (sym (sym (shut no.Damaged) ∙ sym (ap f o) ∙ e)))
       only (sound h p q o) e = (h, o, sym (ap f o) ∙ e)

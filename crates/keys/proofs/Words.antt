@@ -12,7 +12,7 @@ use Rattle.keys.specs.declared.Key.{Key}
 use Rattle.keys.specs.declared.Way.{Way}
 use Rattle.keys.specs.declared.Way.the-variants.{Parts}
 use Rattle.keys.specs.Common.{common, bitOf}
-use Rattle.keys.specs.Ways.{sideOf, wayOf}
+use Rattle.keys.specs.Ways.{wayTo, wayOf}
 use Rattle.keys.specs.Number.{numberOf, Fits, number-equal}
 use Rattle.keys.proofs.Halves.{high-bit, low-bit, halves-less, halves-count}
 use Rattle.keys.proofs.Zeros.{zeros-count}
@@ -55,11 +55,11 @@ words-bit {k} f p l = rw (lt-ltb p 128 l) (go (decLt p 64))
 -- Of p below 64 the high words tell the way, shifted to the bit's place.
 pub words-way : {a b : Key} → Fits a → Fits b → (p : ℕ) → p < 64
     → wayOf (numberOf a) (numberOf b) p
-    ≡ cond (leb (bitXor (a .high) (b .high) / 2 ^ bitXor p 63) 1) (sideOf (eqb (a .high / 2 ^ bitXor p 63 % 2) 1)) Parts
+    ≡ cond (leb (bitXor (a .high) (b .high) / 2 ^ bitXor p 63) 1) (wayTo (eqb (a .high / 2 ^ bitXor p 63 % 2) 1)) Parts
 unfolding wayOf
 words-way {a} {b} f g p l =
     rw (place-right p l, words-bit f p (omega arith), lt-ltb p 64 l, zeros-place (bitXor (a .high) (b .high)) p (xor-lt 64 (a .high) (b .high) (f .high-fits) (g .high-fits)) l, words-common f g)
-    (go (sideOf (eqb (a .high / 2 ^ (63 - p) % 2) 1)) (ℕ-discrete (a .high) (b .high)))
+    (go (wayTo (eqb (a .high / 2 ^ (63 - p) % 2) 1)) (ℕ-discrete (a .high) (b .high)))
   where
     turn : (q : Bool) (u v : Way) → cond q u v ≡ cond (not q) v u
     turn true u v = refl

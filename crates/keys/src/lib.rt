@@ -4,7 +4,7 @@ ghost use mathlib.Core.Path.{_≡_};
 ghost use lib.Count.{leadingZeros};
 ghost use lib.Dec.{ltb, eqb};
 ghost use Rattle.keys.specs.Common.{common, bitOf};
-ghost use Rattle.keys.specs.Ways.{sideOf, wayOf};
+ghost use Rattle.keys.specs.Ways.{wayTo, wayOf};
 ghost use Rattle.keys.specs.Number.{numberOf};
 
 pub struct Key {
@@ -43,8 +43,9 @@ pub fn bit(k: Key, p: u64) -> bool
     }
 }
 
+// To the side of a bit.
 fn side(one: bool) -> Way
-    ensures { λ r. ⌜ r ≡ sideOf one ⌝ }
+    ensures { λ r. ⌜ r ≡ wayTo one ⌝ }
 {
     if one {
         return Way::Right;
@@ -52,7 +53,8 @@ fn side(one: bool) -> Way
     Way::Left
 }
 
-// Where key a goes at the first p bits of key b. Of p below 64 the high words tell: `place` is 63 - p, as the bit's place from the right.
+// Where key a goes at the first p bits of key b. Of p below 64 the high words tell; `place` is 63 - p, the bit's place
+// from the right.
 pub fn goes(a: Key, b: Key, p: u64) -> Way
     ensures { λ r. ⌜ r ≡ wayOf (numberOf a) (numberOf b) p ⌝ }
 {

@@ -27,7 +27,7 @@ use Rattle.inspection.specs.Tests.{shapeOk, topOk, liveValue}
 use Rattle.inspection.specs.Opening.{openOf}
 use Rattle.records.specs.Numbers.{refusalNumber, doneNumber, entryNumber, entryKey, entryValue, zeroKey, zeroValue}
 use Rattle.inspection.specs.Room.{open-header}
-use Rattle.inspection.specs.Answers.{Opens, misshapen, unsound, sound, opens}
+use Rattle.inspection.specs.Answers.{OpensAs, misshapen, unsound, sound, opens}
 use Rattle.listing.specs.declared.Stack.{Stack}
 use Rattle.listing.specs.declared.Position.{Position}
 use Rattle.listing.specs.declared.Made.{Made}
@@ -66,7 +66,7 @@ made-numbers m n ws = go (opens m n ws)
       ((λ e. (refl, refl)), λ e. refl),
     )
 
-    go : Opens m n ws → Goal (shapeOk m n (length ws)) (topOk m n ws) (doneNumber (openedMade (openOf m n ws) .answer))
+    go : OpensAs m n ws → Goal (shapeOk m n (length ws)) (topOk m n ws) (doneNumber (openedMade (openOf m n ws) .answer))
     go (misshapen e o) = rw (e, o) (by false (topOk m n ws))
     go (unsound e h o) = rw (e, h, o) (by true false)
     go (sound h e k o) = rw (e, k, o) (by true true)
@@ -250,7 +250,7 @@ module _ (back : Bool) (m n : ℕ) (ws : List ℕ) (p : Position) where
   unfolding stepOf openedStep entryNumber refusalNumber
   step-number = go (opens m n ws)
     where
-      go : Opens m n ws
+      go : OpensAs m n ws
           → entryNumber (cond (shapeOk m n (length ws)) (cond fits (openedStep back n ws p (openOf m n ws)) (refusedStep p no.Cursor)) (refusedStep p no.Shape) .entry)
           ≡ numbered (shapeOk m n (length ws)) fits (topOk m n ws) ends good meets lives
       go (misshapen e o) = rw e
@@ -309,7 +309,7 @@ module _ (back : Bool) (m n : ℕ) (ws : List ℕ) (p : Position) where
       unmoved d e =
           moved-kept (moved-number ∙ few ends good meets lives (λ q. d (moved-number ∙ q)) (λ q. e (moved-number ∙ q)))
 
-      go : Opens m n ws
+      go : OpensAs m n ws
           → entryNumber (cond (shapeOk m n (length ws)) (cond fits (openedStep back n ws p (openOf m n ws)) (refusedStep p no.Cursor)) (refusedStep p no.Shape) .entry) ≢ 0
           → entryNumber (cond (shapeOk m n (length ws)) (cond fits (openedStep back n ws p (openOf m n ws)) (refusedStep p no.Cursor)) (refusedStep p no.Shape) .entry) ≢ 4
           → cond (shapeOk m n (length ws)) (cond fits (openedStep back n ws p (openOf m n ws)) (refusedStep p no.Cursor)) (refusedStep p no.Shape) .position ≡ p

@@ -36,7 +36,7 @@ use Rattle.inspection.specs.Opening.{openOf, blankOf}
 use Rattle.records.specs.Numbers.{refusalNumber, doneNumber, gotNumber, placeNumber, entryNumber, countNumber, doneFlag, gotValue, placeIndex, entryKey, entryValue, countIs, zeroValue, zeroKey}
 use Rattle.inspection.specs.Room.{opened-whole, shaped-whole}
 use Rattle.inspection.specs.Outcome.{Leaves, one-outcome}
-use Rattle.inspection.specs.Answers.{Opens, misshapen, unsound, sound, opens, shape-exactly, damage-exactly, other-exactly}
+use Rattle.inspection.specs.Answers.{OpensAs, misshapen, unsound, sound, opens, shape-exactly, damage-exactly, other-exactly}
 use Rattle.descent.specs.declared.Stop.{Stop}
 use Rattle.descent.specs.declared.Stop.the-variants as stop
 use Rattle.descent.specs.Descent.{findOf, endOf}
@@ -160,7 +160,7 @@ module _ (m n : ℕ) (ws : List ℕ) (f : Opened → ℕ) (shut : (r : Refusal) 
   ever (Good h) e = spread (f (Good h)) (few (seek h) (f (Good h)) (sym (good h)))
   ever (Shut r) e = go (opens m n ws)
     where
-      go : Opens m n ws → (f (Shut r) ≡ 0) ⊎ ((f (Shut r) ≡ 1) ⊎ ((f (Shut r) ≡ 2) ⊎ (f (Shut r) ≡ 4)))
+      go : OpensAs m n ws → (f (Shut r) ≡ 0) ⊎ ((f (Shut r) ≡ 1) ⊎ ((f (Shut r) ≡ 2) ⊎ (f (Shut r) ≡ 4)))
       go (misshapen p q) = let same : r ≡ no.Shape = cc in inr (inl (shut r ∙ ap refusalNumber same))
       go (unsound p q o) = let same : r ≡ no.Damaged = cc in inr (inr (inl (shut r ∙ ap refusalNumber same)))
       go (sound h p q o) = let z : _≡_ {A = ℕ} 0 1 = cc in absurd (omega arith)

@@ -25,7 +25,7 @@ use Rattle.inspection.specs.declared.Opened.the-variants.{Good}
 use Rattle.inspection.specs.Tests.{shapeOk, topOk, usedNode, nodeOk, rootOk, liveValue}
 use Rattle.inspection.specs.Visit.{liveOf}
 use Rattle.inspection.specs.Opening.{openShaped, openOf}
-use Rattle.inspection.specs.Answers.{Opens, misshapen, unsound, sound, opens}
+use Rattle.inspection.specs.Answers.{OpensAs, misshapen, unsound, sound, opens}
 use Rattle.inspection.specs.Outcome.{Leaves, one-outcome}
 use Rattle.inspection.specs.Room.{opened-whole}
 use Rattle.descent.specs.declared.Stop.{Stop}
@@ -156,7 +156,7 @@ module _ (m n : ℕ) (ws : List ℕ) (key : Key) where
   stop-case h o stop.Empty e = (4, empty h o e)
   stop-case h o stop.Damaged e = (2, visited h o e)
 
-  open-case : Opens m n ws → Some
+  open-case : OpensAs m n ws → Some
   open-case (misshapen p o) = (1, shape p)
   open-case (unsound p q o) = (2, header p q)
   open-case (sound h p q o) = stop-case h o (leafOf h ws key) refl
