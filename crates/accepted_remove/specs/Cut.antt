@@ -30,7 +30,7 @@ use Rattle.accepted.specs.Held.{top-parent, in-range}
 use Rattle.accepted.specs.Forks.{in-near}
 use Rattle.accepted.specs.Apart.{node-not-free}
 use Rattle.accepted_lookup.specs.Answers.{nodes-entries}
-use Rattle.accepted_remove.specs.Spot.{Spot, Way, below, leafThere}
+use Rattle.accepted_remove.specs.Spot.{Spot, Trail, below, leafThere}
 use Rattle.accepted_remove.specs.After.{Removed, counts-less, arena-freed, erase-length, held-tree, at-root, counted, size-is, leaf-chain}
 use Rattle.accepted_remove.specs.Moved.{cutThere, leaf-range, sibling-range, cut-step, node-leaf, node-place, node-outside, closed}
 
@@ -54,7 +54,7 @@ module _ {m n : ℕ} {ws : List ℕ} (a : Accepted m n ws) (key : Key) (t : Tree
   found : find key (entries t) ≡ some j
   found = sym (reach-find key t ordered) ∙ ap valueOf got
 
-  pub way : Way h ws key i j 0 0 t (spot key t) (remove key t)
+  pub way : Trail h ws key i j 0 0 t (spot key t) (remove key t)
   way = below h ws key i j 0 0 t (held-tree a is) miss got
 
   abbrev pub place : Spot h ws key i j (spot key t)

@@ -45,7 +45,7 @@ pub record Spot (h : Header) (ws : List ℕ) (key : Key) (i j : ℕ) (t : Tree) 
 
 -- On the way from t down to the spot u only nodes above it are passed: where no other node changes and the sibling holds
 -- the parent's place, the image holds the tree t′ without the key.
-pub record Way (h : Header) (ws : List ℕ) (key : Key) (i j parent low : ℕ) (t u t′ : Tree) : Type 0 where
+pub record Trail (h : Header) (ws : List ℕ) (key : Key) (i j parent low : ℕ) (t u t′ : Tree) : Type 0 where
   pub at : Spot h ws key i j u
   pub rebuilt : (g : Header) (vs : List ℕ) → h .nodes .bump ≤ g .nodes .bump → h .values .bump ≤ g .values .bump
       → ((y : ℕ) → In y t → (In y u → ⊥) → nodeOf vs y ≡ nodeOf ws y)
@@ -65,7 +65,7 @@ hit-leaf key (leaf x a v) i j g e =
 
 module _ (h : Header) (ws : List ℕ) (key : Key) (i j : ℕ) where
   at-fork : (parent low x : ℕ) (a : Key) (q : ℕ) (side : Bool) (near far : Tree) → Holds h ws parent low (fork x a q side near far) → bit key q ≡ side
-      → hit key near ≡ true → reach key near ≡ some (i, j) → Way h ws key i j parent low (fork x a q side near far) (fork x a q side near far) (relabel x far)
+      → hit key near ≡ true → reach key near ≡ some (i, j) → Trail h ws key i j parent low (fork x a q side near far) (fork x a q side near far) (relabel x far)
   at-fork parent low x a q side near far k e g f =
       let z = hit-leaf key near i j g f in
       let here : fork x a q side near far ≡ fork x a q side (leaf i (z .0) j) far = ap (λ (t : Tree). fork x a q side t far) (z .1) in
@@ -90,7 +90,7 @@ module _ (h : Header) (ws : List ℕ) (key : Key) (i j : ℕ) where
       }
 
   through-fork : (parent low x : ℕ) (a : Key) (q : ℕ) (side : Bool) (near far u near′ : Tree) → Holds h ws parent low (fork x a q side near far) → top near′ ≡ top near
-      → ((y : ℕ) → In y u → In y near) → Way h ws key i j x (q + 1) near u near′ → Way h ws key i j parent low (fork x a q side near far) u (fork x a q side near′ far)
+      → ((y : ℕ) → In y u → In y near) → Trail h ws key i j x (q + 1) near u near′ → Trail h ws key i j parent low (fork x a q side near far) u (fork x a q side near′ far)
   through-fork parent low x a q side near far u near′ k e within way =
       let o = fork-once x a q h ws parent low side near far k in
       record {
@@ -102,16 +102,16 @@ module _ (h : Header) (ws : List ℕ) (key : Key) (i j : ℕ) where
       }
 
   -- a key that is reached, and is not the lone leaf's, has its leaf below a node
-  pub below : (parent low : ℕ) (t : Tree) → Holds h ws parent low t → hit key t ≡ false → reach key t ≡ some (i, j) → Way h ws key i j parent low t (spot key t) (remove key t)
+  pub below : (parent low : ℕ) (t : Tree) → Holds h ws parent low t → hit key t ≡ false → reach key t ≡ some (i, j) → Trail h ws key i j parent low t (spot key t) (remove key t)
   unfolding Holds
   below parent low (leaf x a v) k g e = let z : _≡_ {A = Option (ℕ × ℕ)} none (some (i, j)) = rw g at e in let y : _≡_ {A = ℕ} 0 1 = cc in absurd (omega arith)
   below parent low (inner x a q l r) k g e =
       go (bit key q) (hit key l) (hit key r) refl refl refl e (below x (q + 1) l (k .on-left)) (below x (q + 1) r (k .on-right))
     where
       go : (b u w : Bool) → bit key q ≡ b → hit key l ≡ u → hit key r ≡ w → cond b (reach key r) (reach key l) ≡ some (i, j)
-          → (hit key l ≡ false → reach key l ≡ some (i, j) → Way h ws key i j x (q + 1) l (spot key l) (remove key l))
-          → (hit key r ≡ false → reach key r ≡ some (i, j) → Way h ws key i j x (q + 1) r (spot key r) (remove key r))
-          → Way h ws key i j parent low (inner x a q l r) (cond b (cond w (inner x a q l r) (spot key r)) (cond u (inner x a q l r) (spot key l)))
+          → (hit key l ≡ false → reach key l ≡ some (i, j) → Trail h ws key i j x (q + 1) l (spot key l) (remove key l))
+          → (hit key r ≡ false → reach key r ≡ some (i, j) → Trail h ws key i j x (q + 1) r (spot key r) (remove key r))
+          → Trail h ws key i j parent low (inner x a q l r) (cond b (cond w (inner x a q l r) (spot key r)) (cond u (inner x a q l r) (spot key l)))
           (cond b (close x a q true w (remove key r) l) (close x a q false u (remove key l) r))
       go true u true b f g e left right = at-fork parent low x a q true r l k b g e
       go true u false b f g e left right = through-fork parent low x a q true r l (spot key r) (remove key r) k (top-remove key r) (in-spot key r) (right g e)

@@ -37,16 +37,6 @@ pub enum Turn {
 
 // ---- by a key, prefixes compared
 
-// The child on the side of the key's bit at the node's prefix length.
-fn child(key: Key, x: Node) -> NodeIndex
-    ensures { λ r. ⌜ r ≡ childOf key x ⌝ }
-{
-    if bit(key, x.prefix) {
-        return x.right;
-    }
-    x.left
-}
-
 // One node of the descent: damaged, parted, found, or down.
 fn lookup_turn(img: &[u8], h: Header, key: Key, i: NodeIndex, above: NodeIndex, low: u64) -> Turn
     requires { ⌜ Room h (length (words (now img))) ⌝ }
@@ -113,6 +103,16 @@ pub fn find(img: &[u8], h: Header, key: Key) -> Stop
 }
 
 // ---- by a key's bits alone
+
+// The child on the side of the key's bit at the node's prefix length.
+fn child(key: Key, x: Node) -> NodeIndex
+    ensures { λ r. ⌜ r ≡ childOf key x ⌝ }
+{
+    if bit(key, x.prefix) {
+        return x.right;
+    }
+    x.left
+}
 
 // One node of the descent: damaged, down, or the leaf.
 fn bits_turn(img: &[u8], h: Header, key: Key, i: NodeIndex, above: NodeIndex, low: u64) -> Turn

@@ -11,13 +11,17 @@ use Rattle.records.specs.declared.ValueRecord.{ValueRecord}
 use Rattle.records.specs.Records.{headerOf, frontOf, spareOf, nodeOf, paddingOf, valueRecordOf}
 use Rattle.records.specs.Layout.{mostValues, mostNodes, imageLength}
 
--- M and N lie within their limits, and the image has as many words as they ask for
+-- M and N lie within their limits
+abbrev pub limitsOk : ℕ → ℕ → Bool
+limitsOk m n = leb 1 m && leb m mostValues && leb (2 * m) n && leb n mostNodes
+
+-- and the image has as many words as they ask for
 abbrev pub shapeOk : ℕ → ℕ → ℕ → Bool
-shapeOk m n count = leb 1 m && leb m mostValues && leb (2 * m) n && leb n mostNodes && eqb count (imageLength m n)
+shapeOk m n count = limitsOk m n && eqb count (imageLength m n)
 
 -- the same by the buffer's length in bytes, as the code tests it (`bytes-shape` of Room)
 abbrev pub bytesOk : ℕ → ℕ → ℕ → Bool
-bytesOk m n len = leb 1 m && leb m mostValues && leb (2 * m) n && leb n mostNodes && eqb len (4 * imageLength m n)
+bytesOk m n len = limitsOk m n && eqb len (4 * imageLength m n)
 
 -- ---- Header
 

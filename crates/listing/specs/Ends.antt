@@ -31,8 +31,8 @@ use Rattle.listing.specs.declared.Position.{Position}
 use Rattle.listing.specs.declared.Reached.{Reached}
 use Rattle.listing.specs.declared.Given.{Given}
 use Rattle.listing.specs.declared.Moved.{Moved}
-use Rattle.listing.specs.declared.Ready.{Ready}
-use Rattle.listing.specs.declared.Ready.the-variants.{Go, No}
+use Rattle.listing.specs.declared.Admitted.{Admitted}
+use Rattle.listing.specs.declared.Admitted.the-variants.{Go, No}
 use Rattle.listing.specs.declared.Stepped.{Stepped}
 use Rattle.listing.specs.Position.{mostPlaces}
 use Rattle.listing.specs.Step.{popTo, liveMoved, leafMoved, cameMoved, openedMoved, movedOf, nearEnd, farEnd, withNear, refusedStep, openedStep, stepOf}
@@ -86,14 +86,14 @@ given-moved n ws s other o = go (o .came)
 -- ---- whether a step may pop a node
 
 -- there is one to pop where the listing has not ended and the stack is not empty
-unfoldable pub openedReady : Bool → ℕ → Opened → Ready
-openedReady ended count (Good h) = cond (ended || eqb count 0) (No no.Absent) (Go h)
-openedReady ended count (Shut r) = No r
+unfoldable pub openedAdmit : Bool → ℕ → Opened → Admitted
+openedAdmit ended count (Good h) = cond (ended || eqb count 0) (No no.Absent) (Go h)
+openedAdmit ended count (Shut r) = No r
 
 -- the shape, then the position's counts, then the header
-unfoldable pub readyOf : ℕ → ℕ → List ℕ → Bool → ℕ → ℕ → Ready
-readyOf m n ws ended count held =
-    cond (shapeOk m n (length ws)) (cond (leb count mostPlaces && leb held mostPlaces) (openedReady ended count (openOf m n ws)) (No no.Cursor)) (No no.Shape)
+unfoldable pub admitOf : ℕ → ℕ → List ℕ → Bool → ℕ → ℕ → Admitted
+admitOf m n ws ended count held =
+    cond (shapeOk m n (length ws)) (cond (leb count mostPlaces && leb held mostPlaces) (openedAdmit ended count (openOf m n ws)) (No no.Cursor)) (No no.Shape)
 
 -- what is known where a node is popped
 pub record Pops (m n : ℕ) (ws : List ℕ) (h : Header) (count : ℕ) : Type 0 where
@@ -107,15 +107,15 @@ some-count true count e = absurd (false≢true (sym e))
 some-count false zero e = absurd (false≢true (sym e))
 some-count false (suc count) e = omega arith
 
-pub ready-pops : (m n : ℕ) (ws : List ℕ) (ended : Bool) (count held : ℕ) (h : Header) → readyOf m n ws ended count held ≡ Go h → Pops m n ws h count
-unfolding readyOf openedReady
-ready-pops m n ws ended count held h e = go (shapeOk m n (length ws)) refl (leb count mostPlaces && leb held mostPlaces) refl (openOf m n ws) refl e
+pub admit-pops : (m n : ℕ) (ws : List ℕ) (ended : Bool) (count held : ℕ) (h : Header) → admitOf m n ws ended count held ≡ Go h → Pops m n ws h count
+unfolding admitOf openedAdmit
+admit-pops m n ws ended count held h e = go (shapeOk m n (length ws)) refl (leb count mostPlaces && leb held mostPlaces) refl (openOf m n ws) refl e
   where
     none : {A : Type 0} (r : Refusal) → No r ≡ Go h → A
     none r d = let z : _≡_ {A = ℕ} 0 1 = cc in absurd (omega arith)
 
     go : (shape : Bool) → shapeOk m n (length ws) ≡ shape → (fit : Bool) → leb count mostPlaces && leb held mostPlaces ≡ fit → (o : Opened) → openOf m n ws ≡ o
-        → cond shape (cond fit (openedReady ended count o) (No no.Cursor)) (No no.Shape) ≡ Go h → Pops m n ws h count
+        → cond shape (cond fit (openedAdmit ended count o) (No no.Cursor)) (No no.Shape) ≡ Go h → Pops m n ws h count
     go false a fit b o f d = none no.Shape d
     go true a false b o f d = none no.Cursor d
     go true a true b (Shut r) f d = none r d
@@ -131,12 +131,12 @@ ready-pops m n ws ended count held h e = go (shapeOk m n (length ws)) refl (leb 
 abbrev pub stayed : Stack → Bool → Refusal → Moved
 stayed s ended r = record { near = s; ended = ended; entry = entry.Refused r }
 
-abbrev pub readyMoved : Bool → ℕ → List ℕ → Bool → Stack → ValueIndex → Ready → Moved
-readyMoved back n ws ended s other (Go h) = openedMoved n ws s other (popTo back h ws s)
-readyMoved back n ws ended s other (No r) = stayed s ended r
+abbrev pub admitMoved : Bool → ℕ → List ℕ → Bool → Stack → ValueIndex → Admitted → Moved
+admitMoved back n ws ended s other (Go h) = openedMoved n ws s other (popTo back h ws s)
+admitMoved back n ws ended s other (No r) = stayed s ended r
 
 unfoldable pub endStep : Bool → ℕ → ℕ → List ℕ → Bool → Stack → ℕ → ValueIndex → Moved
-endStep back m n ws ended s held other = readyMoved back n ws ended s other (readyOf m n ws ended (s .count) held)
+endStep back m n ws ended s held other = admitMoved back n ws ended s other (admitOf m n ws ended (s .count) held)
 
 -- ---- the position's step is its near end's
 
@@ -152,13 +152,13 @@ module _ (n : ℕ) (ws : List ℕ) (p : Position) where
   end-refused false r = refl
 
   end-opened : (b : Bool) (o : Opened)
-      → openedStep b n ws p o ≡ assembled b p (readyMoved b n ws (p .ended) (nearEnd b p) (farEnd b p .last) (openedReady (p .ended) (nearEnd b p .count) o))
-  unfolding openedStep movedOf openedReady
+      → openedStep b n ws p o ≡ assembled b p (admitMoved b n ws (p .ended) (nearEnd b p) (farEnd b p .last) (openedAdmit (p .ended) (nearEnd b p .count) o))
+  unfolding openedStep movedOf openedAdmit
   end-opened b (Good h) = go (p .ended || eqb (nearEnd b p .count) 0)
     where
       go : (none : Bool)
           → assembled b p (cond none (stayed (nearEnd b p) (p .ended) no.Absent) (openedMoved n ws (nearEnd b p) (farEnd b p .last) (popTo b h ws (nearEnd b p))))
-          ≡ assembled b p (readyMoved b n ws (p .ended) (nearEnd b p) (farEnd b p .last) (cond none (No no.Absent) (Go h)))
+          ≡ assembled b p (admitMoved b n ws (p .ended) (nearEnd b p) (farEnd b p .last) (cond none (No no.Absent) (Go h)))
       go true = refl
       go false = refl
   end-opened b (Shut r) = end-refused b r
@@ -175,13 +175,13 @@ module _ (n : ℕ) (ws : List ℕ) (p : Position) where
   fits false = refl
 
   pub end-step : (b : Bool) (m : ℕ) → stepOf b m n ws p ≡ assembled b p (nearStep b m n ws p)
-  unfolding stepOf endStep readyOf
+  unfolding stepOf endStep admitOf
   end-step b m = rw (fits b) (go (shapeOk m n (length ws)) (leb (p .front .count) mostPlaces && leb (p .back .count) mostPlaces))
     where
       go : (shape fit : Bool) → cond shape (cond fit (openedStep b n ws p (openOf m n ws)) (refusedStep p no.Cursor)) (refusedStep p no.Shape)
           ≡ assembled b p
-          (readyMoved b n ws (p .ended) (nearEnd b p) (farEnd b p .last)
-          (cond shape (cond fit (openedReady (p .ended) (nearEnd b p .count) (openOf m n ws)) (No no.Cursor)) (No no.Shape)))
+          (admitMoved b n ws (p .ended) (nearEnd b p) (farEnd b p .last)
+          (cond shape (cond fit (openedAdmit (p .ended) (nearEnd b p .count) (openOf m n ws)) (No no.Cursor)) (No no.Shape)))
       go true true = end-opened b (openOf m n ws)
       go true false = end-refused b no.Cursor
       go false fit = end-refused b no.Shape

@@ -27,10 +27,10 @@ use Rattle.listing.specs.declared.Opens.{Opens}
 use Rattle.listing.specs.declared.Opens.the-variants.{On, Came, Spoiled}
 use Rattle.listing.specs.declared.Reached.{Reached}
 use Rattle.listing.specs.declared.Given.{Given}
-use Rattle.listing.specs.declared.Ready.the-variants.{Go}
+use Rattle.listing.specs.declared.Admitted.the-variants.{Go}
 use Rattle.listing.specs.Position.{mostPlaces}
 use Rattle.listing.specs.Step.{nearOf, farOf, openTurn, reachedAt, openBy, openTo, topOf, popTo, openedMoved}
-use Rattle.listing.specs.Ends.{givenOf, given, given-moved, endStep, readyOf, readyMoved, ready-pops}
+use Rattle.listing.specs.Ends.{givenOf, given, given-moved, endStep, admitOf, admitMoved, admit-pops}
 
 -- how far an opening has come: a node's prefix length, and 128 where there is nothing to open
 abbrev pub reachOf : Visited → ℕ
@@ -141,20 +141,20 @@ kept-on false x y e = absurd (false≢true (sym e))
 
 module _ (m n : ℕ) (bytes : List ℕ) (ended : Bool) (held : ℕ) (h : Header) where
   -- the header's nodes lie inside
-  pub ready-room : (count : ℕ) → readyOf m n (imageOf bytes) ended count held ≡ Go h → Room h (length (words bytes))
-  ready-room count e =
-      let k = ready-pops m n (imageOf bytes) ended count held h e in rw (sym (image-words m n bytes (k .shape))) (room m n (imageOf bytes) h (k .opened))
+  pub admit-room : (count : ℕ) → admitOf m n (imageOf bytes) ended count held ≡ Go h → Room h (length (words bytes))
+  admit-room count e =
+      let k = admit-pops m n (imageOf bytes) ended count held h e in rw (sym (image-words m n bytes (k .shape))) (room m n (imageOf bytes) h (k .opened))
 
   -- there is a node to pop, and a place for it
-  pub ready-count : (count : ℕ) → readyOf m n (imageOf bytes) ended count held ≡ Go h → (1 ≤ count) × (count ≤ 129)
-  ready-count count e = let k = ready-pops m n (imageOf bytes) ended count held h e in (k .some, k .most)
+  pub admit-count : (count : ℕ) → admitOf m n (imageOf bytes) ended count held ≡ Go h → (1 ≤ count) × (count ≤ 129)
+  admit-count count e = let k = admit-pops m n (imageOf bytes) ended count held h e in (k .some, k .most)
 
   -- the step is what popping comes to
-  pub ready-moved : (back : Bool) (s : Stack) (other : ValueIndex) → readyOf m n (imageOf bytes) ended (s .count) held ≡ Go h
+  pub admit-moved : (back : Bool) (s : Stack) (other : ValueIndex) → admitOf m n (imageOf bytes) ended (s .count) held ≡ Go h
       → openedMoved n (words bytes) s other (popTo back h (words bytes) s) ≡ endStep back m n (imageOf bytes) ended s held other
   unfolding endStep
-  ready-moved back s other e =
-      let k = ready-pops m n (imageOf bytes) ended (s .count) held h e in
+  admit-moved back s other e =
+      let k = admit-pops m n (imageOf bytes) ended (s .count) held h e in
       sym
-      (ap (readyMoved back n (imageOf bytes) ended s other) e
+      (ap (admitMoved back n (imageOf bytes) ended s other) e
       ∙ ap (λ ws. openedMoved n ws s other (popTo back h ws s)) (image-words m n bytes (k .shape)))

@@ -44,7 +44,7 @@ pub enum Opens {
 }
 
 // Whether a step may pop a node: the header, or why not.
-pub enum Ready {
+pub enum Admitted {
     Go(Header),
     No(Refusal),
 }

@@ -1,9 +1,9 @@
 // Making a position, and a step at an end.
+use crate::Admitted;
 use crate::Made;
 use crate::Moved;
 use crate::Opens;
 use crate::Position;
-use crate::Ready;
 use crate::Stack;
 use crate::Stepped;
 use crate::open::given;
@@ -28,7 +28,7 @@ ghost use Rattle.records.specs.Layout.{imageOf};
 ghost use Rattle.inspection.specs.Room.{Room};
 ghost use Rattle.listing.specs.Position.{emptyStack, rootStack, bothEnds, openedMade, madeOf};
 ghost use Rattle.listing.specs.Step.{stepOf};
-ghost use Rattle.listing.specs.Ends.{readyOf, endStep};
+ghost use Rattle.listing.specs.Ends.{admitOf, endStep};
 
 // ---- making a position
 
@@ -91,8 +91,8 @@ pub fn list(img: &[u8], m: u32, n: u32) -> Made
 // ---- a step
 
 // Whether a step may pop a node: the shape, then the position, then the header; then whether there is a node to pop.
-fn ready(img: &[u8], m: u32, n: u32, ended: bool, count: u32, held: u32) -> Ready
-    ensures { λ r. ⌜ r ≡ readyOf m n (imageOf (now (img .entry))) ended count held ⌝ }
+fn admit(img: &[u8], m: u32, n: u32, ended: bool, count: u32, held: u32) -> Admitted
+    ensures { λ r. ⌜ r ≡ admitOf m n (imageOf (now (img .entry))) ended count held ⌝ }
 {
     if is_image(img, m, n) {
         if count <= 129 {
@@ -101,20 +101,20 @@ fn ready(img: &[u8], m: u32, n: u32, ended: bool, count: u32, held: u32) -> Read
                     Opened::Good(h) => {
                         if !ended {
                             if count != 0 {
-                                return Ready::Go(h);
+                                return Admitted::Go(h);
                             }
                         }
-                        return Ready::No(Refusal::Absent);
+                        return Admitted::No(Refusal::Absent);
                     }
                     Opened::Shut(q) => {
-                        return Ready::No(q);
+                        return Admitted::No(q);
                     }
                 }
             }
         }
-        return Ready::No(Refusal::Cursor);
+        return Admitted::No(Refusal::Cursor);
     }
-    Ready::No(Refusal::Shape)
+    Admitted::No(Refusal::Shape)
 }
 
 // A step at one end, whose stack is `s`; the other end has so many places, and gave `other` last. The next node is popped, and nodes are opened from there on
@@ -131,9 +131,9 @@ fn step(
 ) -> Moved
     ensures { λ r. ⌜ r ≡ endStep back m n (imageOf (now (img .entry))) ended s held other ⌝ }
 {
-    let h = match ready(img, m, n, ended, s.count, held) {
-        Ready::Go(h) => h,
-        Ready::No(r) => return Moved {
+    let h = match admit(img, m, n, ended, s.count, held) {
+        Admitted::Go(h) => h,
+        Admitted::No(r) => return Moved {
             near: s,
             ended,
             entry: Entry::Refused(r),

@@ -5,22 +5,22 @@ use native.Mathlib.Omega.{arith}
 use Prim.Native.Nat.{_-_}
 use Rattle.words.specs.Words.{words}
 use Rattle.records.specs.Layout.{imageOf}
-use Rattle.listing.specs.declared.Ready.the-variants.{Go}
+use Rattle.listing.specs.declared.Admitted.the-variants.{Go}
 use Rattle.listing.specs.Step.{reachedAt, popTo}
-use Rattle.listing.specs.Ends.{readyOf, readyMoved, endStep}
-use Rattle.listing.specs.Laws.{reachOf, Opening, opening, opens-room, opens-nearer, opens-on, opens-last, finished, kept-back, kept-on, ready-room, ready-count, ready-moved}
+use Rattle.listing.specs.Ends.{admitOf, admitMoved, endStep}
+use Rattle.listing.specs.Laws.{reachOf, Opening, opening, opens-room, opens-nearer, opens-on, opens-last, finished, kept-back, kept-on, admit-room, admit-count, admit-moved}
 use borrow.Author.Needs.{needs}
 use Rattle.listing.proofs.step.step.Statement.{statement}
 use Rattle.listing.proofs.step.step.Tie as tie
 
 abbrev Inv-loop : tie.InvT-loop
-Inv-loop img m n back ended s held other h places₀ count₀ top i₀ came₀ places count i came = (readyOf m n (imageOf img) ended (s .count) held ≡ Go h) × Opening back h (words img) s places count i came
+Inv-loop img m n back ended s held other h places₀ count₀ top i₀ came₀ places count i came = (admitOf m n (imageOf img) ended (s .count) held ≡ Go h) × Opening back h (words img) s places count i came
 
 abbrev μ-loop : tie.MeasureT-loop
 μ-loop img m n back ended s held other h places₀ count₀ top i₀ came₀ places count i came = 129 - reachOf came
 
-ready-requires : tie.Need-ready-requires Inv-loop μ-loop
-ready-requires c κs = search needs
+admit-requires : tie.Need-admit-requires Inv-loop μ-loop
+admit-requires c κs = search needs
 
 enum-known-h : tie.Need-enum-known-h Inv-loop μ-loop
 enum-known-h c = search needs
@@ -30,10 +30,10 @@ enum-known-r c = search needs
 
 returns : tie.Need-returns Inv-loop μ-loop
 unfolding endStep
-returns c = sym (ap (readyMoved (c .before .before .before .before .before .args .back) (c .before .before .before .before .before .args .n) (imageOf (c .before .before .before .before .before .args .img .now)) (c .before .before .before .before .before .args .ended) (c .before .before .before .before .before .args .s) (c .before .before .before .before .before .args .other)) (sym (c .before .before .before .ready .ensures) ∙ c .before .r .given .1))
+returns c = sym (ap (admitMoved (c .before .before .before .before .before .args .back) (c .before .before .before .before .before .args .n) (imageOf (c .before .before .before .before .before .args .img .now)) (c .before .before .before .before .before .args .ended) (c .before .before .before .before .before .args .s) (c .before .before .before .before .before .args .other)) (sym (c .before .before .before .admit .ensures) ∙ c .before .r .given .1))
 
 sub-count : tie.Need-sub-count Inv-loop μ-loop
-sub-count c = omega (arith, ready-count (c .before .before .before .before .before .before .before .args .m) (c .before .before .before .before .before .before .before .args .n) (c .before .before .before .before .before .before .before .args .img .now) (c .before .before .before .before .before .before .before .args .ended) (c .before .before .before .before .before .before .before .args .held) _ (c .before .before .before .before .before .before .before .args .s .count) (sym (c .before .before .before .before .before .ready .ensures) ∙ c .before .before .before .h .given .1))
+sub-count c = omega (arith, admit-count (c .before .before .before .before .before .before .before .args .m) (c .before .before .before .before .before .before .before .args .n) (c .before .before .before .before .before .before .before .args .img .now) (c .before .before .before .before .before .before .before .args .ended) (c .before .before .before .before .before .before .before .args .held) _ (c .before .before .before .before .before .before .before .args .s .count) (sym (c .before .before .before .before .before .admit .ensures) ∙ c .before .before .before .h .given .1))
 
 cast-top : tie.Need-cast-top Inv-loop μ-loop
 cast-top c = search needs
@@ -42,16 +42,16 @@ mul-i : tie.Need-mul-i Inv-loop μ-loop
 mul-i c = search needs
 
 array-copy-out-i : tie.Need-array-copy-out-i Inv-loop μ-loop
-array-copy-out-i c = omega (arith, ready-count (c .before .before .before .before .before .before .before .args .m) (c .before .before .before .before .before .before .before .args .n) (c .before .before .before .before .before .before .before .args .img .now) (c .before .before .before .before .before .before .before .args .ended) (c .before .before .before .before .before .before .before .args .held) _ (c .before .before .before .before .before .before .before .args .s .count) (sym (c .before .before .before .before .before .ready .ensures) ∙ c .before .before .before .h .given .1))
+array-copy-out-i c = omega (arith, admit-count (c .before .before .before .before .before .before .before .args .m) (c .before .before .before .before .before .before .before .args .n) (c .before .before .before .before .before .before .before .args .img .now) (c .before .before .before .before .before .before .before .args .ended) (c .before .before .before .before .before .before .before .args .held) _ (c .before .before .before .before .before .before .before .args .s .count) (sym (c .before .before .before .before .before .admit .ensures) ∙ c .before .before .before .h .given .1))
 
 visit-first-requires : tie.Need-visit-first-requires Inv-loop μ-loop
-visit-first-requires c κs = ready-room (c .before .before .before .before .before .before .before .before .args .m) (c .before .before .before .before .before .before .before .before .args .n) (c .before .before .before .before .before .before .before .before .args .img .now) (c .before .before .before .before .before .before .before .before .args .ended) (c .before .before .before .before .before .before .before .before .args .held) _ (c .before .before .before .before .before .before .before .before .args .s .count) (sym (c .before .before .before .before .before .before .ready .ensures) ∙ c .before .before .before .before .h .given .1)
+visit-first-requires c κs = admit-room (c .before .before .before .before .before .before .before .before .args .m) (c .before .before .before .before .before .before .before .before .args .n) (c .before .before .before .before .before .before .before .before .args .img .now) (c .before .before .before .before .before .before .before .before .args .ended) (c .before .before .before .before .before .before .before .before .args .held) _ (c .before .before .before .before .before .before .before .before .args .s .count) (sym (c .before .before .before .before .before .before .admit .ensures) ∙ c .before .before .before .before .h .given .1)
 
 loop-holds : tie.Need-loop-holds Inv-loop μ-loop
-loop-holds c = ((sym (c .before .before .before .before .before .before .before .ready .ensures) ∙ c .before .before .before .before .before .h .given .1), simp (c .visit-first .ensures) (opening (c .before .before .before .before .before .before .before .before .before .args .back) _ (words (c .before .before .before .before .before .before .before .before .before .args .img .now)) (c .before .before .before .before .before .before .before .before .before .args .s) (ready-count (c .before .before .before .before .before .before .before .before .before .args .m) (c .before .before .before .before .before .before .before .before .before .args .n) (c .before .before .before .before .before .before .before .before .before .args .img .now) (c .before .before .before .before .before .before .before .before .before .args .ended) (c .before .before .before .before .before .before .before .before .before .args .held) _ (c .before .before .before .before .before .before .before .before .before .args .s .count) (sym (c .before .before .before .before .before .before .before .ready .ensures) ∙ c .before .before .before .before .before .h .given .1) .1)))
+loop-holds c = ((sym (c .before .before .before .before .before .before .before .admit .ensures) ∙ c .before .before .before .before .before .h .given .1), simp (c .visit-first .ensures) (opening (c .before .before .before .before .before .before .before .before .before .args .back) _ (words (c .before .before .before .before .before .before .before .before .before .args .img .now)) (c .before .before .before .before .before .before .before .before .before .args .s) (admit-count (c .before .before .before .before .before .before .before .before .before .args .m) (c .before .before .before .before .before .before .before .before .before .args .n) (c .before .before .before .before .before .before .before .before .before .args .img .now) (c .before .before .before .before .before .before .before .before .before .args .ended) (c .before .before .before .before .before .before .before .before .before .args .held) _ (c .before .before .before .before .before .before .before .before .before .args .s .count) (sym (c .before .before .before .before .before .before .before .admit .ensures) ∙ c .before .before .before .before .before .h .given .1) .1)))
 
 open-turn-requires : tie.Need-open-turn-requires Inv-loop μ-loop
-open-turn-requires c κs = (ready-room (c .before .before .before .before .before .before .before .before .before .before .args .m) (c .before .before .before .before .before .before .before .before .before .before .args .n) (c .before .before .before .before .before .before .before .before .before .before .args .img .now) (c .before .before .before .before .before .before .before .before .before .before .args .ended) (c .before .before .before .before .before .before .before .before .before .before .args .held) _ (c .before .before .before .before .before .before .before .before .before .before .args .s .count) (c .loop .inv .0), c .loop .inv .1 .room)
+open-turn-requires c κs = (admit-room (c .before .before .before .before .before .before .before .before .before .before .args .m) (c .before .before .before .before .before .before .before .before .before .before .args .n) (c .before .before .before .before .before .before .before .before .before .before .args .img .now) (c .before .before .before .before .before .before .before .before .before .before .args .ended) (c .before .before .before .before .before .before .before .before .before .before .args .held) _ (c .before .before .before .before .before .before .before .before .before .before .args .s .count) (c .loop .inv .0), c .loop .inv .1 .room)
 
 enum-known-wait : tie.Need-enum-known-wait Inv-loop μ-loop
 enum-known-wait c = search needs
@@ -101,7 +101,7 @@ returns-2 c =
     (λ w. ends (w .2 ∙ kept-back k (c .before .before .before .before .before .before .before .loop .places) _ (w .0 .taken)) (w .3 ∙ kept-back k (c .before .before .before .before .before .before .before .loop .count) _ (w .0 .taken)))
     (λ w. ends (w .1 ∙ kept-on k _ (c .before .before .before .before .before .before .before .before .before .before .before .before .before .before .before .before .before .args .s .places) (w .0 .left)) (w .2 ∙ kept-on k _ (c .before .before .before .before .before .before .before .before .before .before .before .before .before .before .before .before .before .args .s .count) (w .0 .left)))
     (c .before .if1 .came)
-    ∙ ready-moved (c .before .before .before .before .before .before .before .before .before .before .before .before .before .before .before .before .before .args .m) (c .before .before .before .before .before .before .before .before .before .before .before .before .before .before .before .before .before .args .n) (c .before .before .before .before .before .before .before .before .before .before .before .before .before .before .before .before .before .args .img .now) (c .before .before .before .before .before .before .before .before .before .before .before .before .before .before .before .before .before .args .ended) (c .before .before .before .before .before .before .before .before .before .before .before .before .before .before .before .before .before .args .held) (c .before .before .before .before .before .before .before .before .before .before .before .before .before .h .given .0 .0) (c .before .before .before .before .before .before .before .before .before .before .before .before .before .before .before .before .before .args .back) (c .before .before .before .before .before .before .before .before .before .before .before .before .before .before .before .before .before .args .s) (c .before .before .before .before .before .before .before .before .before .before .before .before .before .before .before .before .before .args .other) (c .before .before .before .before .before .before .before .loop .inv .0)
+    ∙ admit-moved (c .before .before .before .before .before .before .before .before .before .before .before .before .before .before .before .before .before .args .m) (c .before .before .before .before .before .before .before .before .before .before .before .before .before .before .before .before .before .args .n) (c .before .before .before .before .before .before .before .before .before .before .before .before .before .before .before .before .before .args .img .now) (c .before .before .before .before .before .before .before .before .before .before .before .before .before .before .before .before .before .args .ended) (c .before .before .before .before .before .before .before .before .before .before .before .before .before .before .before .before .before .args .held) (c .before .before .before .before .before .before .before .before .before .before .before .before .before .h .given .0 .0) (c .before .before .before .before .before .before .before .before .before .before .before .before .before .before .before .before .before .args .back) (c .before .before .before .before .before .before .before .before .before .before .before .before .before .before .before .before .before .args .s) (c .before .before .before .before .before .before .before .before .before .before .before .before .before .before .before .before .before .args .other) (c .before .before .before .before .before .before .before .loop .inv .0)
 
 pub step-spec : {M : Type 1} → statement M
 step-spec =
@@ -109,7 +109,7 @@ step-spec =
     (tie.spec
     Inv-loop
     μ-loop
-    ready-requires
+    admit-requires
     enum-known-h
     enum-known-r
     returns
