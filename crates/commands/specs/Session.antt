@@ -5,7 +5,7 @@ use mathlib.Core.Bool.{cond}
 use Prim.Native.Nat.{ℕ, _+_, _-_}
 use lib.Dec.{eqb}
 use Rattle.texts.specs.Lines.{commandOf}
-use Rattle.commands.specs.Answers.{answerOf, imageAfter}
+use Rattle.commands.specs.Answers.{answerOf, imageAfter, keptBy}
 
 -- what a byte does behind the bytes of a line that has begun: it ends the line, or belongs to it
 unfoldable pub byteText : ℕ → ℕ → List ℕ → List ℕ → ℕ → List ℕ
@@ -16,6 +16,10 @@ byteImage m n ws line b = cond (eqb b 10) (imageAfter m n ws (commandOf line)) w
 
 unfoldable pub byteLine : List ℕ → ℕ → List ℕ
 byteLine line b = cond (eqb b 10) [] (line ++ (b ∷ []))
+
+-- 0 where it writes the image; anything else, and no byte of the image changes
+unfoldable pub byteKept : ℕ → ℕ → List ℕ → List ℕ → ℕ → ℕ
+byteKept m n ws line b = cond (eqb b 10) (keptBy m n ws (commandOf line)) 1
 
 -- what bytes are answered, the image behind them, and the line that has begun behind them
 unfoldable pub fedText : ℕ → ℕ → List ℕ → List ℕ → List ℕ → List ℕ
@@ -30,14 +34,36 @@ unfoldable pub fedLine : List ℕ → List ℕ → List ℕ
 fedLine line [] = line
 fedLine line (b ∷ bytes) = fedLine (byteLine line b) bytes
 
--- a last line without LF counts if it has a byte
+-- 0 where some line writes the image; anything else, and no byte of it changes
+abbrev pub either : ℕ → ℕ → ℕ
+either a b = cond (eqb a 0) 0 b
+
+unfoldable pub fedKept : ℕ → ℕ → List ℕ → List ℕ → List ℕ → ℕ
+fedKept m n ws line [] = 1
+fedKept m n ws line (b ∷ bytes) = either (byteKept m n ws line b) (fedKept m n (byteImage m n ws line b) (byteLine line b) bytes)
+
+-- a last line without LF counts if it has a byte: what it is answered, the image behind it, and whether it writes the image
 unfoldable pub lastText : ℕ → ℕ → List ℕ → List ℕ → List ℕ
 lastText m n ws [] = []
 lastText m n ws (b ∷ line) = answerOf m n ws (commandOf (b ∷ line))
 
--- what a whole input is answered
+unfoldable pub lastImage : ℕ → ℕ → List ℕ → List ℕ → List ℕ
+lastImage m n ws [] = ws
+lastImage m n ws (b ∷ line) = imageAfter m n ws (commandOf (b ∷ line))
+
+unfoldable pub lastKept : ℕ → ℕ → List ℕ → List ℕ → ℕ
+lastKept m n ws [] = 1
+lastKept m n ws (b ∷ line) = keptBy m n ws (commandOf (b ∷ line))
+
+-- what a whole input is answered, the image behind it, and whether it writes the image
 unfoldable pub inputText : ℕ → ℕ → List ℕ → List ℕ → List ℕ
 inputText m n ws bytes = fedText m n ws [] bytes ++ lastText m n (fedImage m n ws [] bytes) (fedLine [] bytes)
+
+unfoldable pub inputImage : ℕ → ℕ → List ℕ → List ℕ → List ℕ
+inputImage m n ws bytes = lastImage m n (fedImage m n ws [] bytes) (fedLine [] bytes)
+
+unfoldable pub inputKept : ℕ → ℕ → List ℕ → List ℕ → ℕ
+inputKept m n ws bytes = either (fedKept m n ws [] bytes) (lastKept m n (fedImage m n ws [] bytes) (fedLine [] bytes))
 
 -- ---- cut anywhere
 
