@@ -146,12 +146,12 @@ Spells line command.All = line ≡ lineText command.All
 Spells line command.Bad = Unit
 
 -- a property of what a test chooses
-pick : {A : Type 0} (P : A → Type 0) (b : Bool) (x y : A) → (b ≡ true → P x) → P y → P (cond b x y)
+pub pick : {A : Type 0} (P : A → Type 0) (b : Bool) (x y : A) → (b ≡ true → P x) → P y → P (cond b x y)
 pick P true x y f g = f refl
 pick P false x y f g = g
 
 -- the fields, and a property of what is made of them
-one-cases : (P : OneField → Type 0) (line : List ℕ)
+pub one-cases : (P : OneField → Type 0) (line : List ℕ)
     → (length line ≡ 34 → getD line 1 0 ≡ 32 → fieldAt line 2 .ok ≡ true → P (one.Is (keyFrom (fieldAt line 2))))
     → P one.Not → P (oneField line)
 unfolding oneField
@@ -159,7 +159,7 @@ one-cases P line f g =
     pick P (eqb (length line) 34) _ _
     (λ e. pick P (eqb (getD line 1 0) 32 && fieldAt line 2 .ok) _ _ (λ t. f (eqb-true _ 34 e) (eqb-true _ 32 (search (and-l, and-r))) (search (and-l, and-r))) g) g
 
-two-cases : (P : TwoFields → Type 0) (line : List ℕ)
+pub two-cases : (P : TwoFields → Type 0) (line : List ℕ)
     → (length line ≡ 67 → getD line 1 0 ≡ 32 → getD line 34 0 ≡ 32 → fieldAt line 2 .ok ≡ true → fieldAt line 35 .ok ≡ true
     → P (two.Are (keyFrom (fieldAt line 2)) (valueFrom (fieldAt line 35))))
     → P two.Not → P (twoFields line)

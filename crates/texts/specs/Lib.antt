@@ -5,3 +5,4 @@ pub mod Lines
 pub mod Texts
 pub mod Exact
 pub mod Spelled
+pub mod Fitting
