@@ -112,9 +112,9 @@ pub record IndexLaw (m n : ℕ) (ws : List ℕ) (key : Key) (es : Entries) : Typ
 pub index-law : {m n : ℕ} {ws : List ℕ} (a : Accepted m n ws) (key : Key) → Fits key → IndexLaw m n ws key (listed a)
 index-law a key f = record { absent = address-absent a key; names = address-names a key f; inserted = insert-addressed a key f }
 
--- "Listings: from positions made since the last insert or remove": every history of calls with listings in it, from both ends and in every interleaving.
-pub listings-too : (m n : ℕ) (ws : List ℕ) (s : State) → Is m n ws s → (p : Position) (xs : List Move) → All FittingMove xs
-    → MeetAll (moveAnswers m n xs ws p) (movesTold m xs s none) × Is m n (imageThen m n xs ws) (stateThen m xs s)
+-- "Listings: from positions made since the last insert or remove": every history of calls with any number of listings in it, interleaved with the calls and with each other, from both ends.
+pub listings-too : (m n : ℕ) (ws : List ℕ) (s : State) → Is m n ws s → (ps : ℕ → Position) (xs : List Move) → All FittingMove xs
+    → MeetAll (moveAnswers m n xs ws ps) (movesTold m xs s (λ k. none)) × Is m n (imageThen m n xs ws) (stateThen m xs s)
 listings-too = listing-history
 
 -- "A full map refuses even a key it holds", whatever the key, and nothing changes.

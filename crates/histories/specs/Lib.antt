@@ -10,5 +10,6 @@ pub mod NotEmpty
 pub mod Sharp
 pub mod ShutOut
 pub mod Listings
+pub mod Examples
 pub mod Demands
 pub mod Lent
