@@ -51,9 +51,9 @@ FittingMove (opened who) = Unit {0}
 FittingMove (stepped who back) = Unit {0}
 FittingMove (called c) = Fitting c
 
--- one of many, by its number, is replaced
-abbrev pub put : {A : Type 0} → ℕ → A → (ℕ → A) → ℕ → A
-put who x f k = cond (eqb k who) x (f k)
+-- one of many, by its number, is changed
+abbrev pub changedAt : {A : Type 0} → ℕ → A → (ℕ → A) → ℕ → A
+changedAt who x f k = cond (eqb k who) x (f k)
 
 -- ---- over the words
 
@@ -68,8 +68,8 @@ moveImage m n (stepped who back) ws = ws
 moveImage m n (called c) ws = imageLeft m n c ws
 
 abbrev pub movePositions : ℕ → ℕ → Move → List ℕ → (ℕ → Position) → ℕ → Position
-movePositions m n (opened who) ws ps = put who (madeOf m n ws .position) ps
-movePositions m n (stepped who back) ws ps = put who (stepOf back m n ws (ps who) .position) ps
+movePositions m n (opened who) ws ps = changedAt who (madeOf m n ws .position) ps
+movePositions m n (stepped who back) ws ps = changedAt who (stepOf back m n ws (ps who) .position) ps
 movePositions m n (called c) ws ps = ps
 
 abbrev pub moveAnswers : ℕ → ℕ → List Move → List ℕ → (ℕ → Position) → List Answer
@@ -113,8 +113,8 @@ callLeft m (ask q) es left = left
 
 abbrev pub moveLefts : ℕ → Move → State → (ℕ → Option Entries) → ℕ → Option Entries
 moveLefts m x blank lefts = λ k. none
-moveLefts m (opened who) (holding es) lefts = put who (some es) lefts
-moveLefts m (stepped who back) (holding es) lefts = put who (Option·map (restOf back) (lefts who)) lefts
+moveLefts m (opened who) (holding es) lefts = changedAt who (some es) lefts
+moveLefts m (stepped who back) (holding es) lefts = changedAt who (Option·map (restOf back) (lefts who)) lefts
 moveLefts m (called c) (holding es) lefts = λ k. callLeft m c es (lefts k)
 
 abbrev pub movesTold : ℕ → List Move → State → (ℕ → Option Entries) → List (Option Answer)
@@ -153,13 +153,13 @@ Promised m n ws (holding es) p (some left) = Moment m n ws p es left
 abbrev pub Watched : ℕ → ℕ → List ℕ → (ℕ → Position) → State → (ℕ → Option Entries) → Type 0
 Watched m n ws ps s lefts = Is m n ws s × ((k : ℕ) → Promised m n ws s (ps k) (lefts k))
 
-unpromised : (m n : ℕ) (ws : List ℕ) (s : State) (p : Position) → Promised m n ws s p none
+pub unpromised : (m n : ℕ) (ws : List ℕ) (s : State) (p : Position) → Promised m n ws s p none
 unpromised m n ws blank p = tt
 unpromised m n ws (holding es) p = tt
 
 -- what holds of the new one and of all the old ones holds of all of them
-put-both : {A B : Type 0} (P : A → B → Type 0) (who : ℕ) (x : A) (y : B) (f : ℕ → A) (g : ℕ → B) → P x y → ((k : ℕ) → P (f k) (g k)) → (k : ℕ) → P (put who x f k) (put who y g k)
-put-both P who x y f g new old k = go (eqb k who)
+changed-both : {A B : Type 0} (P : A → B → Type 0) (who : ℕ) (x : A) (y : B) (f : ℕ → A) (g : ℕ → B) → P x y → ((k : ℕ) → P (f k) (g k)) → (k : ℕ) → P (changedAt who x f k) (changedAt who y g k)
+changed-both P who x y f g new old k = go (eqb k who)
   where
     go : (b : Bool) → P (cond b x (f k)) (cond b y (g k))
     go true = new
@@ -245,10 +245,10 @@ move-agrees m n ws ps blank lefts w (called c) f =
 move-agrees m n ws ps (holding es) lefts w (opened who) f =
     let a = w .0 .0 in
     let made : Moment m n ws (madeOf m n ws .position) es es = subst (λ (l : Entries). Moment m n ws (madeOf m n ws .position) l l) (w .0 .1) (moment-made a) in
-    (ap (λ (d : Done). done-is d) (made-agrees a .0), (w .0, put-both (Promised m n ws (holding es)) who (madeOf m n ws .position) (some es) ps lefts made (w .1)))
+    (ap (λ (d : Done). done-is d) (made-agrees a .0), (w .0, changed-both (Promised m n ws (holding es)) who (madeOf m n ws .position) (some es) ps lefts made (w .1)))
 move-agrees m n ws ps (holding es) lefts w (stepped who back) f =
     let r = step-one m n ws (holding es) (ps who) (lefts who) (w .1 who) back in
-    (r .0, (w .0, put-both (Promised m n ws (holding es)) who (stepOf back m n ws (ps who) .position) (Option·map (restOf back) (lefts who)) ps lefts (r .1) (w .1)))
+    (r .0, (w .0, changed-both (Promised m n ws (holding es)) who (stepOf back m n ws (ps who) .position) (Option·map (restOf back) (lefts who)) ps lefts (r .1) (w .1)))
 move-agrees m n ws ps (holding es) lefts w (called c) f =
     let r = agrees m n ws (holding es) (w .0) c f in (r .0, (r .1, λ k. called-one m n ws (ps k) es (lefts k) c f (w .1 k)))
 

@@ -1,5 +1,5 @@
 -- Histories of the code's own calls, over the bytes of the buffer that they are lent: in any sequence of runs, each as the contract of its function says, the answers are those of the list's history, and
--- the last buffer holds what the list's history leaves. `Ran` is to be held beside the `ensures` lines of the calls (crates `lookup`, `insert`, `remove`, `full_check`); nothing else is asked of a run.
+-- the last buffer holds what the list's history leaves. `Ran` is what the `ensures` lines of the calls say; crate `lent_calls` proves that of each of them.
 use mathlib.Core.Path.{_≡_, refl, sym, ap, subst, _∙_}
 use mathlib.Core.List.{List, [], _∷_, map}
 use Prim.Native.Nat.{ℕ, _+_, _*_, _^_, _≤_, _<_}
@@ -109,6 +109,14 @@ Ran m n capacity before a after = (a ≡ count-is (capacityReply m n (imageOf be
 Ran m n smallest before a after = (a ≡ entry-is (smallestOf m n (imageOf before))) × (after ≡ before)
 Ran m n largest before a after = (a ≡ entry-is (largestOf m n (imageOf before))) × (after ≡ before)
 Ran m n (check scratch) before a after = (a ≡ done-is (checkOf m n (imageOf before) (words scratch))) × (after ≡ before)
+
+-- the same of a call that is given the two words of a key, and those of a value: they are values of u64
+abbrev pub RanBy : ℕ → ℕ → (LentKey → LentCall) → ℕ → ℕ → List ℕ → Answer → List ℕ → Type 0
+RanBy m n call high low before a after = (h : high < 2 ^ 64) × ((l : low < 2 ^ 64) × Ran m n (call (record { high = (high, h); low = (low, l) })) before a after)
+
+abbrev pub RanWith : ℕ → ℕ → (LentKey → LentValue → LentCall) → ℕ → ℕ → ℕ → ℕ → List ℕ → Answer → List ℕ → Type 0
+RanWith m n call high low first second before a after =
+    (f : first < 2 ^ 64) × ((s : second < 2 ^ 64) × RanBy m n (λ key. call key (record { first = (first, f); second = (second, s) })) high low before a after)
 
 -- a call, what it answered, and the buffer afterwards
 pub record Run : Type 0 where

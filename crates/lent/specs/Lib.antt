@@ -1,4 +1,6 @@
--- The demands over the bytes that the calls are lent: a run of the code is a call, what it answered and the buffer afterwards, tied by the contract of the call's own function. Histories has the calls,
--- Listings the same with listings among them.
+-- The demands over the bytes that calls are lent, as the contracts of the code's own functions relate them: Histories for the calls, Listings with listings among them, Holding for the listing that holds
+-- its image, Board for what C calls.
 pub mod Histories
 pub mod Listings
+pub mod Holding
+pub mod Board

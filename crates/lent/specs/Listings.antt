@@ -1,5 +1,5 @@
 -- Histories of the code's own calls with listings among them, over the bytes of the buffer and the positions of the listings: any number of them, interleaved with the calls and with each other. What one
--- move's contract says is to be held beside the `ensures` lines of `list`, `next` and `next_back` (crate `listing`); a call's is `Ran` of Histories.
+-- move's contract says is `MoveRan`; crate `lent_calls` proves that of `list`, `next` and `next_back`.
 use mathlib.Core.Path.{_≡_, refl, sym, ap, subst, _∙_}
 use mathlib.Core.List.{List, [], _∷_}
 use mathlib.Core.Bool.{Bool}
@@ -9,7 +9,9 @@ use lib.ListN.{length, getD}
 use Rattle.words.specs.Words.{words, Bytes}
 use Rattle.records.specs.declared.Done.the-variants as done
 use Rattle.records.specs.Layout.{imageOf}
+use Rattle.listing.specs.declared.Made.{Made}
 use Rattle.listing.specs.declared.Position.{Position}
+use Rattle.listing.specs.declared.Stepped.{Stepped}
 use Rattle.listing.specs.Position.{madeOf}
 use Rattle.listing.specs.Step.{stepOf}
 use Rattle.full_check.specs.Check.{checkOf}
@@ -19,7 +21,7 @@ use Rattle.lists.specs.Answers.{Answer, done-is, entry-is}
 use Rattle.lists.specs.Machine.{Entries, State, blank, holding}
 use Rattle.histories.specs.Agrees.{Is}
 use Rattle.histories.specs.NotEmpty.{Limits}
-use Rattle.histories.specs.Listings.{Move, FittingMove, put, moveAnswer, moveImage, movePositions, moveAnswers, imageThen, movesTold, stateThen, MeetAll}
+use Rattle.histories.specs.Listings.{Move, FittingMove, changedAt, moveAnswer, moveImage, movePositions, moveAnswers, imageThen, positionsThen, movesTold, stateThen, leftsThen, MeetAll, Watched, unpromised, moves-agree}
 use Rattle.histories.specs.Listings as listings
 use Rattle.histories.specs.Demands.{Ends, after-any-history, listings-too}
 use Rattle.lent.specs.Histories.{LentCall, callOf, Ran, fitting, ran-answer, ran-image, blank-bytes, checked-bytes}
@@ -44,10 +46,28 @@ moveOf (called c) = listings.called (callOf c)
 -- was. Making a listing and its steps are lent the buffer for reading; a call is lent no position.
 abbrev pub MoveRan : ℕ → ℕ → LentMove → List ℕ → (ℕ → Position) → Answer → List ℕ → (ℕ → Position) → Type 0
 MoveRan m n (opened who) before ps a after qs =
-    (a ≡ done-is (madeOf m n (imageOf before) .answer)) × (after ≡ before) × ((k : ℕ) → qs k ≡ put who (madeOf m n (imageOf before) .position) ps k)
+    (a ≡ done-is (madeOf m n (imageOf before) .answer)) × (after ≡ before) × ((k : ℕ) → qs k ≡ changedAt who (madeOf m n (imageOf before) .position) ps k)
 MoveRan m n (stepped who back) before ps a after qs =
-    (a ≡ entry-is (stepOf back m n (imageOf before) (ps who) .entry)) × (after ≡ before) × ((k : ℕ) → qs k ≡ put who (stepOf back m n (imageOf before) (ps who) .position) ps k)
+    (a ≡ entry-is (stepOf back m n (imageOf before) (ps who) .entry)) × (after ≡ before) × ((k : ℕ) → qs k ≡ changedAt who (stepOf back m n (imageOf before) (ps who) .position) ps k)
 MoveRan m n (called c) before ps a after qs = Ran m n c before a after × ((k : ℕ) → qs k ≡ ps k)
+
+-- the same of a listing that was made, and of a step from a position, whichever listing it is
+pub record MadeRan (m n : ℕ) (b : List ℕ) (r : Made) : Type 0 where
+  pub ran : (ps : ℕ → Position) (who : ℕ) → MoveRan m n (opened who) b ps (done-is (r .answer)) b (changedAt who (r .position) ps)
+
+pub record StepRan (back : Bool) (m n : ℕ) (b : List ℕ) (p : Position) (r : Stepped) : Type 0 where
+  pub ran : (ps : ℕ → Position) (who : ℕ) → ps who ≡ p → MoveRan m n (stepped who back) b ps (entry-is (r .entry)) b (changedAt who (r .position) ps)
+
+pub made-ran : {m n : ℕ} {b : List ℕ} {r : Made} → r ≡ madeOf m n (imageOf b) → MadeRan m n b r
+made-ran e = record { ran = λ ps who. (ap (λ (x : Made). done-is (x .answer)) e, refl, λ k. ap (λ (x : Made). changedAt who (x .position) ps k) e) }
+
+pub step-ran : {back : Bool} {m n : ℕ} {b : List ℕ} {p : Position} {r : Stepped} → r ≡ stepOf back m n (imageOf b) p → StepRan back m n b p r
+step-ran {back} {m} {n} {b} {p} {r} e =
+    record {
+      ran = λ ps who at.
+          let same : r ≡ stepOf back m n (imageOf b) (ps who) = e ∙ ap (stepOf back m n (imageOf b)) (sym at) in
+          (ap (λ (x : Stepped). entry-is (x .entry)) same, refl, λ k. ap (λ (x : Stepped). changedAt who (x .position) ps k) same);
+    }
 
 -- a move, what it answered, and the buffer and the positions afterwards
 pub record MoveRun : Type 0 where
@@ -72,6 +92,10 @@ moveAnswersIn (r ∷ run) = r .answer ∷ moveAnswersIn run
 abbrev pub bufferThen : List ℕ → List MoveRun → List ℕ
 bufferThen b [] = b
 bufferThen b (r ∷ run) = bufferThen (r .after) run
+
+abbrev pub positionsLast : (ℕ → Position) → List MoveRun → ℕ → Position
+positionsLast ps [] = ps
+positionsLast ps (r ∷ run) = positionsLast (r .positions) run
 
 -- ---- a move that was made is the move over the words
 
@@ -114,7 +138,23 @@ module _ (m n : ℕ) where
   moves-image b ps [] h = refl
   moves-image b ps (r ∷ run) h = moves-image (r .after) (r .positions) run (h .1) ∙ ap (imageThen m n (movesOf run)) (move-image m n b ps (r .answer) (r .after) (r .positions) (r .move) (h .0))
 
+  moves-positions : (b : List ℕ) (ps : ℕ → Position) (run : List MoveRun) → MoveRuns m n b ps run → positionsLast ps run ≡ positionsThen m n (movesOf run) (imageOf b) ps
+  moves-positions b ps [] h = refl
+  moves-positions b ps (r ∷ run) h =
+      let image = move-image m n b ps (r .answer) (r .after) (r .positions) (r .move) (h .0) in
+      let positions = move-positions m n b ps (r .answer) (r .after) (r .positions) (r .move) (h .0) in
+      moves-positions (r .after) (r .positions) run (h .1) ∙ (λ ι. positionsThen m n (movesOf run) (image ι) (positions ι))
+
 -- ---- the theorem
+
+-- At the end of any history the buffer is in the list's state, and every listing of which something is promised stands where it has that left.
+pub lent-watched : (m n : ℕ) (b : List ℕ) (s : State) → Is m n (imageOf b) s → (ps : ℕ → Position) (run : List MoveRun) → MoveRuns m n b ps run
+    → Watched m n (imageOf (bufferThen b run)) (positionsLast ps run) (stateThen m (movesOf run) s) (leftsThen m (movesOf run) s (λ k. none))
+lent-watched m n b s i ps run h =
+    let t = moves-agree m n (imageOf b) ps s (λ k. none) (i, λ k. unpromised m n (imageOf b) s (ps k)) (movesOf run) (fitting-moves run) in
+    let image = moves-image m n b ps run h in
+    let positions = moves-positions m n b ps run h in
+    rw (image, positions) (t .1)
 
 -- In any history from a buffer that is blank memory or holds a list, whatever positions there were before, each answer is the one that the list tells, and the last buffer is in the list's last state.
 pub lent-listings-too : (m n : ℕ) (b : List ℕ) (s : State) → Is m n (imageOf b) s → (ps : ℕ → Position) (run : List MoveRun) → MoveRuns m n b ps run
