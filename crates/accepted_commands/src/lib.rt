@@ -1,0 +1,1 @@
+// No code: the command program is the list. Everything is in specs/.
