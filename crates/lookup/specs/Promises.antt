@@ -40,6 +40,7 @@ use Rattle.inspection.specs.Answers.{OpensAs, misshapen, unsound, sound, opens,
 use Rattle.descent.specs.declared.Stop.{Stop}
 use Rattle.descent.specs.declared.Stop.the-variants as stop
 use Rattle.descent.specs.Descent.{findOf, endOf}
+use Rattle.descent.specs.Bits.{Reached, leaf, fails, end-reaches}
 use Rattle.lookup.specs.declared.Target.{Target}
 use Rattle.lookup.specs.declared.Target.the-variants.{At, No}
 use Rattle.lookup.specs.Start.{started, startOf, startImage, doneImage, started-shaped, openedLength, lengthOf, openedCapacity, capacityReply}
@@ -234,7 +235,7 @@ module _ (m n : ℕ) (ws : List ℕ) (key : Key) where
       numbers m n ws (λ o. placeNumber (openedPlace ws key o)) (λ r. refl) (λ h. findOf h ws key) (λ s. s ≡ stop.Damaged) (λ s. doneNumber (stopDone s))
       (λ h. place-stop (findOf h ws key)) stop-damaged stop-absent stop-numbers
 
--- smallest and largest: absent exactly in an empty map
+-- smallest and largest
 entry-target : (t : Target) → entryNumber (targetEntry t) ≡ targetNumber t
 unfolding entryNumber targetEntry targetNumber
 entry-target (At i x v) = refl
@@ -246,15 +247,40 @@ end-numbers m n ws right =
     numbers m n ws (λ o. entryNumber (openedEntry n ws right o)) (λ r. refl) (λ h. endOf h ws right) (Failed n ws) (λ s. targetNumber (stopTarget n ws s))
     (λ h. entry-target (stopTarget n ws (endOf h ws right))) (target-damaged n ws) (target-absent n ws) (target-numbers n ws)
 
+-- absent exactly in an empty map: the way to an end compares no key, so it parts nowhere
+end-away : (h : Header) (ws : List ℕ) (right : Bool) → Away (endOf h ws right) ↔ (h .values .size ≡ 0)
+end-away h ws right = go (end-reaches h ws right)
+  where
+    never : (s : Stop) → Reached s → Away s → ⊥
+    never s (leaf i x) a = elim a [ ]
+    never s fails a = elim a [ ]
+
+    go : ((h .values .size ≡ 0) × (endOf h ws right ≡ stop.Empty)) ⊎ ((h .values .size ≢ 0) × Reached (endOf h ws right)) → Away (endOf h ws right) ↔ (h .values .size ≡ 0)
+    go (inl (none, e)) = ((λ a. none), λ z. rw e nothing)
+    go (inr (some-held, r)) = ((λ a. absurd (never (endOf h ws right) r a)), λ z. absurd (some-held z))
+
+pub end-absent : (m n : ℕ) (ws : List ℕ) (right : Bool) → (entryNumber (endEntry m n ws right) ≡ 4) ↔ ((h : Header) × (openOf m n ws ≡ Good h) × (h .values .size ≡ 0))
+end-absent m n ws right = (
+  λ e. (let c = end-numbers m n ws right .absent .0 e in (c .0, c .1, end-away (c .0) ws right .0 (c .2))),
+  λ c. end-numbers m n ws right .absent .1 (c .0, c .1, end-away (c .0) ws right .1 (c .2)),
+)
+
 -- length and capacity refuse by shape and header alone
 pub length-numbers : (m n : ℕ) (ws : List ℕ) → (countNumber (lengthOf m n ws) ≡ 1) ↔ (shapeOk m n (length ws) ≡ false)
 unfolding lengthOf openedLength countNumber
 length-numbers m n ws = shape-exactly (λ o. countNumber (openedLength o)) (λ r. refl) m n ws (λ h e. omega arith)
 
-pub length-damaged : (m n : ℕ) (ws : List ℕ) → (countNumber (lengthOf m n ws) ≡ 2)
-    ↔ (((shapeOk m n (length ws) ≡ true) × (topOk m n ws ≡ false)) ⊎ ((h : Header) × (openOf m n ws ≡ Good h) × (countNumber (openedLength (Good h)) ≡ 2)))
+pub length-damaged : (m n : ℕ) (ws : List ℕ) → (countNumber (lengthOf m n ws) ≡ 2) ↔ ((shapeOk m n (length ws) ≡ true) × (topOk m n ws ≡ false))
 unfolding lengthOf openedLength countNumber
-length-damaged m n ws = damage-exactly (λ o. countNumber (openedLength o)) (λ r. refl) m n ws
+length-damaged m n ws =
+    let both = damage-exactly (λ o. countNumber (openedLength o)) (λ r. refl) m n ws in
+    ((λ e. header (both .0 e)), λ c. both .1 (inl c))
+  where
+    -- an image that opens has a length
+    header : ((shapeOk m n (length ws) ≡ true) × (topOk m n ws ≡ false)) ⊎ ((h : Header) × (openOf m n ws ≡ Good h) × (countNumber (openedLength (Good h)) ≡ 2))
+        → (shapeOk m n (length ws) ≡ true) × (topOk m n ws ≡ false)
+    header (inl a) = a
+    header (inr (h, o, e)) = absurd (omega arith)
 
 pub capacity-as-length : (m n : ℕ) (ws : List ℕ) → countNumber (capacityReply m n ws) ≡ countNumber (lengthOf m n ws)
 unfolding capacityReply lengthOf openedCapacity openedLength countNumber
