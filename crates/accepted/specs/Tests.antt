@@ -78,14 +78,14 @@ header-rules m n h e =
     let root : h .root .0 ≡ cond (eqb (h .values .size) 0) 0 1 = eqb-true (h .root .0) (cond (eqb (h .values .size) 0) 0 1) (search (and-l, and-r) depth 8) in
     let empty : not (eqb (h .values .size) 0) || eqb (h .nodes .head) 1 ≡ true = search (and-l, and-r) depth 8 in
     record {
-      size-most = let tested : h .values .size ≤ m = leb-true (h .values .size) m (search (and-l, and-r) depth 8) in omega arith;
+      size-most = leb-true (h .values .size) m (search (and-l, and-r) depth 8);
       node-size = eqb-true (h .nodes .size) (2 * h .values .size - 1) (search (and-l, and-r) depth 8);
       root-none = λ z. root ∙ ap (λ (b : Bool). cond b 0 1) (eq-eqb (h .values .size) 0 z);
       root-one = λ z. root ∙ ap (λ (b : Bool). cond b 0 1) (ne-eqb (h .values .size) 0 z);
-      empty-head = λ z. ⊎-elim
+      empty-head = λ z. let tested : h .nodes .head ≡ 1 = ⊎-elim
           (λ (x : not (eqb (h .values .size) 0) ≡ true). absurd (eqb-false (h .values .size) 0 (not-true _ x) z))
           (λ (x : eqb (h .nodes .head) 1 ≡ true). eqb-true (h .nodes .head) 1 x)
-          (or-cases (not (eqb (h .values .size) 0)) (eqb (h .nodes .head) 1) empty);
+          (or-cases (not (eqb (h .values .size) 0)) (eqb (h .nodes .head) 1) empty) in omega arith;
       nodes = arena-rules (h .nodes) n (search (and-l, and-r) depth 8);
       values = arena-rules (h .values) m (search (and-l, and-r) depth 8);
     }
@@ -146,7 +146,7 @@ link-rules : (bump i next : ℕ) → linkOk bump i next ≡ true → Link bump i
 link-rules bump i next e =
     record {
       some = leb-true 1 next (search (and-l, and-r) depth 8);
-      most = let tested : next ≤ bump = leb-true next bump (search (and-l, and-r) depth 8) in omega arith;
+      most = leb-true next bump (search (and-l, and-r) depth 8);
       other = eqb-false next i (not-true (eqb next i) (search (and-l, and-r) depth 8));
     }
 
@@ -171,7 +171,7 @@ free-node-rules h ws i x e =
           (λ (y : not (eqb i 1) ≡ true). absurd (eqb-false i 1 (not-true _ y) z))
           (λ (y : eqb (x .parent .0) 0 ≡ true). eqb-true (x .parent .0) 0 y)
           (or-cases (not (eqb i 1)) (eqb (x .parent .0) 0) first);
-      prefix-most = leb-true (x .prefix) 128 (search (and-l, and-r) depth 10);
+      prefix-most = let tested : x .prefix ≤ 128 = leb-true (x .prefix) 128 (search (and-l, and-r) depth 10) in omega arith;
     }
 
 pub free-node-passes : (h : Header) (ws : List ℕ) (i : ℕ) (x : Node) → paddingOf ws i ≡ 0 → FreeNode h i x → freeNode h ws i x ≡ true

@@ -43,18 +43,18 @@ pub fn list<'a>(image: &'a [u8], m: u32, n: u32) -> Listing<'a>
 pub fn next<'s, 'a>(l: &'s mut Listing<'a>) -> Entry
     ensures { λ r. ⌜ (r ≡ heldStep false (now (l .entry)) .entry) × (now (l .exit) ≡ movedOn false (now (l .entry))) ⌝ }
 {
-    let stepped = step::next(l.image, l.m, l.n, l.position);
-    l.position = stepped.position;
-    stepped.entry
+    let front = step::next(l.image, l.m, l.n, l.position);
+    l.position = front.position;
+    front.entry
 }
 
 // The next entry from the back.
 pub fn next_back<'s, 'a>(l: &'s mut Listing<'a>) -> Entry
     ensures { λ r. ⌜ (r ≡ heldStep true (now (l .entry)) .entry) × (now (l .exit) ≡ movedOn true (now (l .entry))) ⌝ }
 {
-    let stepped = step::next_back(l.image, l.m, l.n, l.position);
-    l.position = stepped.position;
-    stepped.entry
+    let back = step::next_back(l.image, l.m, l.n, l.position);
+    l.position = back.position;
+    back.entry
 }
 
 // The same image, listed from another position, as one that was kept from an earlier step.
