@@ -1,5 +1,5 @@
 -- The demands that speak of accepted images and of histories, sentence by sentence, each cited from where it is proved. `Call`, `listAnswer` and `listNext` are in the crate lists, Machine; `answerOf` and
--- `imageLeft` in Calls; `Accepted` in the crate accepted.
+-- `imageLeft` in Calls; `Accepted` in the crate accepted. Over the bytes that the code's own calls are lent the same stands in the crate lent.
 use mathlib.Core.Path.{_≡_, refl, sym, ap, subst, _∙_}
 use mathlib.Core.List.{List, _∷_, map}
 use mathlib.Core.Logic.{_≢_, _↔_}
