@@ -71,7 +71,7 @@ fn cleared_check(img: &[u8], marks: &mut [u8], m: u32, n: u32) -> Done
 {
     words::clear(marks);
     let answer = opened_check(img, marks, m, n);
-    words::clear(marks); // whatever the answer is
+    words::clear(marks);
     answer
 }
 
