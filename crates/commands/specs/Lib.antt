@@ -4,3 +4,4 @@ pub mod Session
 pub mod Examples
 pub mod Whole
 pub mod Pieces
+pub mod Once

@@ -1,23 +1,25 @@
 -- Input that comes in pieces, as the code holds it: the line that has begun is held at the buffer's front, or, where it has more than 80 bytes, only marked; such a line is bad, whatever follows.
 use mathlib.Core.Path.{_≡_, refl, sym, ap, subst, _∙_}
 use mathlib.Core.List.{List, [], _∷_, _++_, append-assoc, append-nil}
-use mathlib.Core.Logic.{_≢_}
-use mathlib.Core.Bool.{Bool, true, false, cond, false≢true}
+use mathlib.Core.Logic.{_≢_, _⊎_, inl, inr}
+use mathlib.Core.Bool.{Bool, true, false, cond, _||_, false≢true}
 use Prim.Native.Nat.{ℕ, zero, suc, _+_, _-_, _<_, _≤_}
 use native.Mathlib.Numerals.{add-one}
 use native.Mathlib.Omega.{arith}
-use lib.ListN.{length, getD, set, take, drop, length-append, length-drop, length-set}
-use lib.Seq.{drop-cons, take-add, drop-drop, length-take-le, take-suc, take-suc-set, getD-drop, getD-set-other}
-use lib.Dec.{eqb}
-use borrow.Author.Tests.{ne-eqb}
+use lib.ListN.{length, getD, set, take, drop, length-append, length-drop, length-set, take-append-drop}
+use lib.Seq.{drop-cons, take-add, drop-drop, length-take-le, take-at, take-suc, take-suc-set, drop-set-lt, getD-drop}
+use lib.Dec.{eqb, ltb}
+use borrow.Author.Tests.{ne-eqb, eqb-false, ltb-true}
 use Rattle.records.specs.Layout.{imageOf}
+use Rattle.inspection.specs.Outcome.{Leaves, left-alone}
 use Rattle.texts.specs.declared.Command.{Command}
 use Rattle.texts.specs.declared.Command.the-variants as command
 use Rattle.texts.specs.Put.{Written, then, nothing, reads}
 use Rattle.texts.specs.Lines.{commandOf, letterAsked, oneField, twoFields, keyAsked, bothAsked, aloneAsked}
 use Rattle.texts.specs.Texts.{badText}
-use Rattle.commands.specs.Answers.{answerOf, imageAfter}
-use Rattle.commands.specs.Session.{byteText, byteImage, byteLine, fedText, fedImage, fedLine, lastText, fed-text-append, fed-image-append, fed-line-append}
+use Rattle.commands.specs.declared.pieces.Kept.{Kept}
+use Rattle.commands.specs.Answers.{answerOf, imageAfter, keptBy}
+use Rattle.commands.specs.Session.{byteText, byteImage, byteLine, byteKept, fedText, fedImage, fedLine, fedKept, either, lastText, lastImage, lastKept, fed-text-append, fed-image-append, fed-line-append, fed-kept-append}
 
 -- ---- lines that are too long
 
@@ -45,11 +47,38 @@ abbrev pub Before : Bool → List ℕ → Type 0
 Before true line = 80 < length line
 Before false line = line ≡ []
 
+-- ---- what lines leave, one after the other
+
+-- where neither of two is 0
+either-both : (j k : ℕ) → either j k ≢ 0 → (j ≢ 0) × (k ≢ 0)
+either-both j k = go (eqb j 0) refl
+  where
+    go : (t : Bool) → eqb j 0 ≡ t → cond t 0 k ≢ 0 → (j ≢ 0) × (k ≢ 0)
+    go true e d = absurd (d refl)
+    go false e d = (eqb-false j 0 e, d)
+
+-- the same, said in another way
+pub leaves-as : {a b : List ℕ} {j k : ℕ} {u v : List ℕ} → j ≡ k → u ≡ v → Leaves a b j u → Leaves a b k v
+leaves-as {a} {b} {j} {k} {u} {v} e f x = subst (λ (l : List ℕ). Leaves a b k l) f (subst (λ (i : ℕ). Leaves a b i u) e x)
+
+-- two in a row are one
+pub leaves-then : {a b c : List ℕ} {j k : ℕ} {u v : List ℕ} → Leaves a b j u → Leaves b c k v → Leaves a c (either j k) v
+leaves-then {a} {b} {c} {j} {k} x y =
+    record {
+      words = y .words;
+      kept = λ d. y .kept (either-both j k d .1) ∙ x .kept (either-both j k d .0);
+    }
+
+-- one, and then nothing
+pub leaves-alone : {a b : List ℕ} {k : ℕ} {u : List ℕ} → Leaves a b k u → Leaves a b (either k 1) u
+leaves-alone {a} {b} {k} x = leaves-then x (left-alone (sym (x .words)))
+
 -- ---- a line that has ended
 
 pub record Ended (long : Bool) (text before after out out′ : List ℕ) (at behind : ℕ) : Type 0 where
   pub answer : (line : List ℕ) → Before long line → Written out out′ at behind (answerOf 256 512 (imageOf before) (commandOf (line ++ text)))
-  pub image : (line : List ℕ) → Before long line → imageOf after ≡ imageAfter 256 512 (imageOf before) (commandOf (line ++ text))
+  pub image : (line : List ℕ) → Before long line
+      → Leaves before after (keptBy 256 512 (imageOf before) (commandOf (line ++ text))) (imageAfter 256 512 (imageOf before) (commandOf (line ++ text)))
 
 pub ended-long : {long : Bool} {text img out out′ : List ℕ} {at behind : ℕ} → long ≡ true → Written out out′ at behind badText
     → Ended long text img img out out′ at behind
@@ -57,7 +86,7 @@ unfolding answerOf imageAfter
 ended-long {long} {text} {img} {out} {out′} {at} {behind} e w =
     record {
       answer = λ line h. rw (bad line h) w;
-      image = λ line h. rw (bad line h);
+      image = λ line h. left-alone (rw (bad line h));
     }
   where
     bad : (line : List ℕ) → Before long line → commandOf (line ++ text) ≡ command.Bad
@@ -67,7 +96,8 @@ ended-long {long} {text} {img} {out} {out′} {at} {behind} e w =
 
 pub ended-short : {long : Bool} {text before after out out′ : List ℕ} {at behind : ℕ} → long ≡ false
     → Written out out′ at behind (answerOf 256 512 (imageOf before) (commandOf text))
-    → imageOf after ≡ imageAfter 256 512 (imageOf before) (commandOf text) → Ended long text before after out out′ at behind
+    → Leaves before after (keptBy 256 512 (imageOf before) (commandOf text)) (imageAfter 256 512 (imageOf before) (commandOf text))
+    → Ended long text before after out out′ at behind
 ended-short {long} {text} {before} {after} {out} {out′} {at} {behind} e w i =
     record {
       answer = λ line h. rw (none line h) w;
@@ -144,6 +174,11 @@ module _ (m n : ℕ) where
   fed-image-on ws line [] e = refl
   fed-image-on ws line (b ∷ bytes) e = rw (ne-eqb b 10 (e .0)) (fed-image-on ws (line ++ (b ∷ [])) bytes (e .1))
 
+  pub fed-kept-on : (ws line bytes : List ℕ) → NoEnd bytes → fedKept m n ws line bytes ≡ 1
+  unfolding fedKept byteKept byteImage byteLine
+  fed-kept-on ws line [] e = refl
+  fed-kept-on ws line (b ∷ bytes) e = rw (ne-eqb b 10 (e .0)) (fed-kept-on ws (line ++ (b ∷ [])) bytes (e .1))
+
 pub fed-line-on : (line bytes : List ℕ) → NoEnd bytes → fedLine line bytes ≡ line ++ bytes
 unfolding fedLine byteLine
 fed-line-on line [] e = sym (append-nil line)
@@ -164,6 +199,12 @@ module _ (m n : ℕ) (ws line bytes : List ℕ) (on : NoEnd bytes) where
   unfolding fedImage byteImage
   line-image = fed-image-append m n ws line bytes (10 ∷ []) ∙ rw (fed-image-on m n ws line bytes on, fed-line-on line bytes on)
 
+  pub line-kept : fedKept m n ws line (bytes ++ (10 ∷ [])) ≡ either (keptBy m n ws (commandOf (line ++ bytes))) 1
+  unfolding fedKept byteKept
+  line-kept =
+      fed-kept-append m n ws line bytes (10 ∷ [])
+      ∙ rw (fed-kept-on m n ws line bytes on, fed-image-on m n ws line bytes on, fed-line-on line bytes on)
+
   pub line-line : fedLine line (bytes ++ (10 ∷ [])) ≡ []
   unfolding fedLine byteLine
   line-line = fed-line-append line bytes (10 ∷ [])
@@ -172,16 +213,17 @@ module _ (m n : ℕ) (ws line bytes : List ℕ) (on : NoEnd bytes) where
 
 pub record Fed (long : Bool) (bytes before after out out′ : List ℕ) (at behind : ℕ) (long′ : Bool) : Type 0 where
   pub answer : (line : List ℕ) → Before long line → Written out out′ at behind (fedText 256 512 (imageOf before) line bytes)
-  pub image : (line : List ℕ) → Before long line → imageOf after ≡ fedImage 256 512 (imageOf before) line bytes
+  pub image : (line : List ℕ) → Before long line
+      → Leaves before after (fedKept 256 512 (imageOf before) line bytes) (fedImage 256 512 (imageOf before) line bytes)
   pub line : (line : List ℕ) → Before long line → Before long′ (fedLine line bytes)
 
 pub fed-none : {long : Bool} {img out : List ℕ} {at : ℕ} (bytes : List ℕ) → bytes ≡ [] → Fed long bytes img img out out at at long
-unfolding fedText fedImage fedLine
+unfolding fedText fedImage fedLine fedKept
 fed-none {long} {img} {out} {at} bytes e =
     rw e
     (record {
       answer = λ line h. nothing;
-      image = λ line h. refl;
+      image = λ line h. left-alone refl;
       line = λ line h. h;
     })
 
@@ -195,62 +237,104 @@ fed-more {long} {over} {s} {t} {img₀} {img₁} {img₂} {out₀} {out₁} {out
           let g = fedLine line s in
           reads
           (ap (λ (l : List ℕ). fedText 256 512 (imageOf img₀) line s ++ l)
-          (ap (λ (ws : List ℕ). answerOf 256 512 ws (commandOf (g ++ t))) (x .image line h)
+          (ap (λ (ws : List ℕ). answerOf 256 512 ws (commandOf (g ++ t))) (x .image line h .words)
           ∙ sym (line-text 256 512 (fedImage 256 512 (imageOf img₀) line s) g t on))
           ∙ sym (fed-text-append 256 512 (imageOf img₀) line s (t ++ (10 ∷ []))))
           (then (x .answer line h) (y .answer g (x .line line h)));
       image = λ line h.
           let g = fedLine line s in
-          y .image g (x .line line h)
-          ∙ ap (λ (ws : List ℕ). imageAfter 256 512 ws (commandOf (g ++ t))) (x .image line h)
-          ∙ sym (line-image 256 512 (fedImage 256 512 (imageOf img₀) line s) g t on)
-          ∙ sym (fed-image-append 256 512 (imageOf img₀) line s (t ++ (10 ∷ [])));
+          let ws = fedImage 256 512 (imageOf img₀) line s in
+          let more : Leaves img₁ img₂ (keptBy 256 512 ws (commandOf (g ++ t))) (imageAfter 256 512 ws (commandOf (g ++ t))) =
+          subst (λ (l : List ℕ). Leaves img₁ img₂ (keptBy 256 512 l (commandOf (g ++ t))) (imageAfter 256 512 l (commandOf (g ++ t)))) (x .image line h .words)
+          (y .image g (x .line line h)) in
+          leaves-as (sym (fed-kept-append 256 512 (imageOf img₀) line s (t ++ (10 ∷ [])))) (sym (fed-image-append 256 512 (imageOf img₀) line s (t ++ (10 ∷ []))))
+          (leaves-then (x .image line h)
+          (leaves-as (sym (line-kept 256 512 ws g t on)) (sym (line-image 256 512 ws g t on)) (leaves-alone more)));
       line = λ line h. fed-line-append line s (t ++ (10 ∷ [])) ∙ line-line 256 512 [] (fedLine line s) t on;
     })
+
+-- ---- where answering stops
+
+-- nothing was answered, or a line was; and before the last line that was answered there was room for the longest answer
+pub record Stopped (long : Bool) (bytes img : List ℕ) (from at size behind : ℕ) (long′ : Bool) : Type 0 where
+  pub line : ((behind ≡ from) × (long′ ≡ long)) ⊎ ((from < behind) × (getD bytes (behind - 1) 0 ≡ 10) × (long′ ≡ false))
+  pub room : from < behind → (line : List ℕ) → Before long line
+      → at + length (fedText 256 512 (imageOf img) line (part from (behind - 1) bytes)) + 16911 ≤ size
+
+pub stopped-none : {long : Bool} {bytes img : List ℕ} {from at size : ℕ} → Stopped long bytes img from at size from long
+stopped-none = record { line = inl (refl, refl); room = λ h. absurd (omega arith) }
+
+pub stopped-more : {long over : Bool} {img₀ img₁ out₀ out₁ : List ℕ} {at place : ℕ} (bytes : List ℕ) (from start stop size : ℕ)
+    → from ≤ start → start ≤ stop → getD bytes stop 0 ≡ 10 → NoEnd (part start stop bytes) → place + 16911 ≤ size
+    → Fed long (part from start bytes) img₀ img₁ out₀ out₁ at place over → Stopped long bytes img₀ from at size (stop + 1) false
+stopped-more {long} {over} {img₀} {img₁} {out₀} {out₁} {at} {place} bytes from start stop size h k e on r x =
+    record {
+      line = inr (omega arith, rw one e, refl);
+      room = λ p line b.
+          let ws = imageOf img₀ in
+          let same : fedText 256 512 ws line (part from (stop + 1 - 1) bytes) ≡ fedText 256 512 ws line (part from start bytes) =
+          rw (one, ← (part-append from start stop bytes h k))
+          (fed-text-append 256 512 ws line (part from start bytes) (part start stop bytes)
+          ∙ ap (λ (t : List ℕ). fedText 256 512 ws line (part from start bytes) ++ t)
+          (fed-text-on 256 512 (fedImage 256 512 ws line (part from start bytes)) (fedLine line (part from start bytes)) (part start stop bytes) on)
+          ∙ append-nil (fedText 256 512 ws line (part from start bytes))) in
+          omega (arith, ap length same, x .answer line b .place);
+    }
+  where
+    one : stop + 1 - 1 ≡ stop
+    one = omega arith
 
 -- ---- what is held of the line that has begun
 
 pub record Held (buf : List ℕ) (have : ℕ) (long : Bool) (line : List ℕ) : Type 0 where
   pub marked : long ≡ true → 80 < length line
+  pub empty : long ≡ true → have ≡ 0
   pub front : long ≡ false → take have buf ≡ line
 
-pub held-marked : (buf : List ℕ) (have : ℕ) (line : List ℕ) → 80 < length line → Held buf have true line
-held-marked buf have line h = record { marked = λ e. h; front = λ e. absurd (false≢true (sym e)) }
+held-marked : (buf line : List ℕ) → 80 < length line → Held buf 0 true line
+held-marked buf line h = record { marked = λ e. h; empty = λ e. refl; front = λ e. absurd (false≢true (sym e)) }
 
-pub held-front : (buf : List ℕ) (have : ℕ) (line : List ℕ) → take have buf ≡ line → Held buf have false line
-held-front buf have line h = record { marked = λ e. absurd (false≢true e); front = λ e. h }
+held-front : (buf : List ℕ) (have : ℕ) (line : List ℕ) → take have buf ≡ line → Held buf have false line
+held-front buf have line h = record { marked = λ e. absurd (false≢true e); empty = λ e. absurd (false≢true e); front = λ e. h }
 
--- a line that is marked already, one that is marked now, and one that is moved to the front
-pub keep-marked : (long : Bool) (buf buf′ : List ℕ) (have from end : ℕ) → long ≡ true
-    → (line : List ℕ) → Before long line → Held buf′ have true (line ++ part from end buf)
-keep-marked long buf buf′ have from end e line h =
-    let l : 80 < length line = subst (λ (b : Bool). Before b line) e h in
-    held-marked buf′ have (line ++ part from end buf) (omega (arith, length-append line (part from end buf)))
+-- What is kept of the bytes from a place up to another, behind a line that is marked or not: nothing and the mark, or at most 80 bytes, which are moved to the front.
+abbrev pub keptOf : Bool → ℕ → ℕ → Kept
+keptOf long from end = cond (long || ltb 80 (end - from)) (record { have = 0; long = true }) (record { have = end - from; long = false })
 
-pub keep-long : (long : Bool) (buf buf′ : List ℕ) (have from end : ℕ) → from ≤ end → end ≤ length buf → 80 < end - from
-    → (line : List ℕ) → Before long line → Held buf′ have true (line ++ part from end buf)
-keep-long long buf buf′ have from end h k l line _ =
-    held-marked buf′ have (line ++ part from end buf) (omega (arith, length-append line (part from end buf), part-length from end buf h k))
+abbrev pub keptBuffer : Bool → ℕ → ℕ → List ℕ → List ℕ
+keptBuffer long from end buf = cond (long || ltb 80 (end - from)) buf (part from end buf ++ drop (end - from) buf)
 
-pub keep-front : (long : Bool) (buf buf′ : List ℕ) (have from end : ℕ) → long ≡ false → take have buf′ ≡ part from end buf
-    → (line : List ℕ) → Before long line → Held buf′ have false (line ++ part from end buf)
-keep-front long buf buf′ have from end e f line h =
-    let none : line ≡ [] = subst (λ (b : Bool). Before b line) e h in
-    rw none (held-front buf′ have (part from end buf) f)
+-- so the line that has begun is held
+pub keep-holds : (long : Bool) (from end : ℕ) (buf : List ℕ) → from ≤ end → end ≤ length buf → (line : List ℕ) → Before long line
+    → Held (keptBuffer long from end buf) (keptOf long from end .have) (keptOf long from end .long) (line ++ part from end buf)
+keep-holds true from end buf h k line b = held-marked buf (line ++ part from end buf) (omega (arith, length-append line (part from end buf)))
+keep-holds false from end buf h k line b = go (ltb 80 (end - from)) refl
+  where
+    go : (t : Bool) → ltb 80 (end - from) ≡ t
+        → Held (cond t buf (part from end buf ++ drop (end - from) buf)) ((cond {A = Kept} t (record { have = 0; long = true }) (record { have = end - from; long = false })) .have)
+        ((cond {A = Kept} t (record { have = 0; long = true }) (record { have = end - from; long = false })) .long) (line ++ part from end buf)
+    go true e =
+        let many : 80 < end - from = ltb-true 80 (end - from) e in
+        held-marked buf (line ++ part from end buf) (omega (arith, length-append line (part from end buf), part-length from end buf h k))
+    go false e =
+        held-front (part from end buf ++ drop (end - from) buf) (end - from) (line ++ part from end buf)
+        (take-at (part from end buf) (drop (end - from) buf) (end - from) (part-length from end buf h k) ∙ rw b)
 
 -- so many bytes from a place on are moved to the front
 pub record Moved (from : ℕ) (before after : List ℕ) (i : ℕ) : Type 0 where
   pub long : length after ≡ length before
   pub front : take i after ≡ take i (drop from before)
-  pub rest : (p : ℕ) → i ≤ p → getD after p 0 ≡ getD before p 0
+  pub rest : drop i after ≡ drop i before
 
 pub moved-none : {from : ℕ} {before : List ℕ} → Moved from before before 0
-moved-none = record { long = refl; front = refl; rest = λ p h. refl }
+moved-none = record { long = refl; front = refl; rest = refl }
 
 pub moved-more : {from : ℕ} {before after : List ℕ} {i : ℕ} → from + i < length before → Moved from before after i
     → Moved from before (set after i (getD after (from + i) 0)) (i + 1)
 moved-more {from} {before} {after} {i} h x =
-    let same : getD after (from + i) 0 ≡ getD before (from + i) 0 = x .rest (from + i) (omega arith) in
+    let turn : from + i ≡ i + from = omega arith in
+    let same : getD after (from + i) 0 ≡ getD before (from + i) 0 =
+    rw turn (sym (getD-drop i after from 0) ∙ ap (λ (l : List ℕ). getD l from 0) (x .rest) ∙ getD-drop i before from 0) in
     let room : i < length after = omega (arith, x .long) in
     let far : i < length (drop from before) = omega (arith, length-drop from before) in
     record {
@@ -261,32 +345,75 @@ moved-more {from} {before} {after} {i} h x =
           ∙ ap (λ (l : List ℕ). l ++ (getD after (from + i) 0 ∷ [])) (x .front)
           ∙ ap (λ (b : ℕ). take i (drop from before) ++ (b ∷ [])) (same ∙ sym (getD-drop from before i 0))
           ∙ sym (take-suc (drop from before) i 0 far));
-      rest = λ p q.
-          let apart : p ≢ i = λ e. omega arith in
-          getD-set-other after i p (getD after (from + i) 0) 0 apart ∙ x .rest p (omega arith);
+      rest =
+          drop-set-lt (i + 1) after i (getD after (from + i) 0) (omega arith)
+          ∙ sym (drop-drop 1 i after)
+          ∙ ap (λ (l : List ℕ). drop 1 l) (x .rest)
+          ∙ drop-drop 1 i before;
     }
+
+-- all of them
+pub moved-all : {from : ℕ} {before after : List ℕ} {i : ℕ} (many : ℕ) → i ≡ many → Moved from before after i
+    → after ≡ take many (drop from before) ++ drop many before
+moved-all {from} {before} {after} {i} many e x =
+    subst (λ (k : ℕ). after ≡ take k (drop from before) ++ drop k before) e
+    (sym (take-append-drop i after) ∙ ap (λ (l : List ℕ). l ++ drop i after) (x .front) ∙ ap (λ (l : List ℕ). take i (drop from before) ++ l) (x .rest))
 
 -- ---- the last line
 
-pub last-long : (m n : ℕ) (ws line : List ℕ) → 80 < length line → badText ≡ lastText m n ws line
-unfolding lastText answerOf
-last-long m n ws [] h = absurd (omega arith)
-last-long m n ws (b ∷ line) h = rw (long-bad (b ∷ line) h)
+-- a line that is marked is bad; of any other the bytes at the front are the whole
+abbrev pub endingText : ℕ → ℕ → Bool → List ℕ → List ℕ → List ℕ
+endingText m n long ws text = cond long badText (lastText m n ws text)
 
-pub last-some : (m n : ℕ) (ws line : List ℕ) → 0 < length line → answerOf m n ws (commandOf line) ≡ lastText m n ws line
-unfolding lastText
-last-some m n ws [] h = absurd (omega arith)
-last-some m n ws (b ∷ line) h = refl
+abbrev pub endingImage : ℕ → ℕ → Bool → List ℕ → List ℕ → List ℕ
+endingImage m n long ws text = cond long ws (lastImage m n ws text)
 
--- what is held at the front, as a part
-pub last-front : (m n : ℕ) (ws buf : List ℕ) (have : ℕ) (line : List ℕ) → 0 < have → have ≤ length buf → take have buf ≡ line
-    → answerOf m n ws (commandOf (part 0 have buf)) ≡ lastText m n ws line
-last-front m n ws buf have line h k e =
-    let z : have - 0 ≡ have = omega arith in
-    let long : length line ≡ have = ap length (sym e) ∙ length-take-le have buf k in
-    rw (z, e) (last-some m n ws line (omega arith))
+abbrev pub endingKept : ℕ → ℕ → Bool → List ℕ → List ℕ → ℕ
+endingKept m n long ws text = cond long 1 (lastKept m n ws text)
 
-pub last-none : (m n : ℕ) (ws buf : List ℕ) (have : ℕ) (line : List ℕ) → have ≤ 0 → take have buf ≡ line → [] ≡ lastText m n ws line
-unfolding lastText
-last-none m n ws buf zero line h e = subst (λ (l : List ℕ). [] ≡ lastText m n ws l) e refl
-last-none m n ws buf (suc have) line h e = absurd (omega arith)
+module _ (m n : ℕ) (ws : List ℕ) where
+  last-long : (line : List ℕ) → 80 < length line → (badText ≡ lastText m n ws line) × (ws ≡ lastImage m n ws line) × (1 ≡ lastKept m n ws line)
+  unfolding lastText lastImage lastKept answerOf imageAfter keptBy
+  last-long [] h = absurd (omega arith)
+  last-long (b ∷ line) h = rw (long-bad (b ∷ line) h) (refl, refl, refl)
+
+  last-some : (line : List ℕ) → 0 < length line
+      → (answerOf m n ws (commandOf line) ≡ lastText m n ws line)
+      × (imageAfter m n ws (commandOf line) ≡ lastImage m n ws line)
+      × (keptBy m n ws (commandOf line) ≡ lastKept m n ws line)
+  unfolding lastText lastImage lastKept
+  last-some [] h = absurd (omega arith)
+  last-some (b ∷ line) h = (refl, refl, refl)
+
+  -- what is held is the line that has begun
+  pub held-ending : {buf : List ℕ} {have : ℕ} {long : Bool} {line : List ℕ} → Held buf have long line
+      → (endingText m n long ws (take have buf) ≡ lastText m n ws line)
+      × (endingImage m n long ws (take have buf) ≡ lastImage m n ws line)
+      × (endingKept m n long ws (take have buf) ≡ lastKept m n ws line)
+  held-ending {buf} {have} {long} {line} x = go long (x .marked) (x .front)
+    where
+      go : (t : Bool) → (t ≡ true → 80 < length line) → (t ≡ false → take have buf ≡ line)
+          → (endingText m n t ws (take have buf) ≡ lastText m n ws line)
+          × (endingImage m n t ws (take have buf) ≡ lastImage m n ws line)
+          × (endingKept m n t ws (take have buf) ≡ lastKept m n ws line)
+      go true h e = last-long line (h refl)
+      go false h e = rw (e refl) (refl, refl, refl)
+
+  -- marked; with bytes at the front, as a part; with none
+  pub ending-long : (text : List ℕ) (long : Bool) → long ≡ true → (badText ≡ endingText m n long ws text) × (endingImage m n long ws text ≡ ws)
+  ending-long text long e = rw e (refl, refl)
+
+  pub ending-front : (buf : List ℕ) (have : ℕ) (long : Bool) → long ≡ false → 0 < have → have ≤ length buf
+      → (answerOf m n ws (commandOf (part 0 have buf)) ≡ endingText m n long ws (take have buf))
+      × (imageAfter m n ws (commandOf (part 0 have buf)) ≡ endingImage m n long ws (take have buf))
+      × (keptBy m n ws (commandOf (part 0 have buf)) ≡ endingKept m n long ws (take have buf))
+  ending-front buf have long e h k =
+      let z : have - 0 ≡ have = omega arith in
+      let some : 0 < length (take have buf) = omega (arith, length-take-le have buf k) in
+      rw (z, e) (last-some (take have buf) some)
+
+  pub ending-none : (buf : List ℕ) (have : ℕ) (long : Bool) → long ≡ false → have ≤ 0
+      → ([] ≡ endingText m n long ws (take have buf)) × (endingImage m n long ws (take have buf) ≡ ws)
+  unfolding lastText lastImage
+  ending-none buf zero long e h = rw e (refl, refl)
+  ending-none buf (suc have) long e h = absurd (omega arith)

@@ -4,12 +4,11 @@ use crate::run::line;
 use texts::print::put_bad;
 ghost use mathlib.Core.Path.{_≡_};
 ghost use Prim.Native.Nat.{ℕ, _+_, _-_, _<_, _≤_};
-ghost use mathlib.Core.List.{List, _++_};
-ghost use lib.ListN.{length, getD};
+ghost use lib.ListN.{length, getD, take};
 ghost use Rattle.records.specs.Layout.{imageOf};
+ghost use Rattle.inspection.specs.Outcome.{Leaves};
 ghost use Rattle.texts.specs.Put.{Written};
-ghost use Rattle.commands.specs.Session.{lastText};
-ghost use Rattle.commands.specs.Pieces.{Before, Ended, Fed, Held, part};
+ghost use Rattle.commands.specs.Pieces.{Ended, Fed, Stopped, part, keptOf, keptBuffer, endingText, endingImage, endingKept};
 
 // Where answering stopped: the first byte of the line that has begun, the place behind the last answer, and whether the line that has begun is too long already.
 pub struct Turn {
@@ -66,6 +65,7 @@ pub fn answer_lines(
     requires { ⌜ (from ≤ end) × (end ≤ length (now buf)) × (at ≤ length (now out)) ⌝ }
     ensures within { λ r. ⌜ (from ≤ r .from) × (r .from ≤ end) × (r .at ≤ length (now (out .entry))) ⌝ }
     ensures lines { λ r. ⌜ Fed long (part from (r .from) (now (buf .entry))) (now (img .entry)) (now (img .exit)) (now (out .entry)) (now (out .exit)) at (r .at) (r .long) ⌝ }
+    ensures stopped { λ r. ⌜ Stopped long (now (buf .entry)) (now (img .entry)) from at (length (now (out .entry))) (r .from) (r .long) ⌝ }
     ensures left { λ r. ⌜ (r .at + 16911 ≤ length (now (out .entry)) → (k : ℕ) → r .from ≤ k → k < end → getD (now (buf .entry)) k 0 ≡ 10 → ⊥) ⌝ }
 {
     let mut start = from;
@@ -94,7 +94,8 @@ pub fn answer_lines(
 pub fn keep(buf: &mut [u8], from: usize, end: usize, long: bool) -> Kept
     requires { ⌜ (from ≤ end) × (end ≤ length (now buf)) ⌝ }
     ensures room { λ r. ⌜ r .have ≤ 80 ⌝ }
-    ensures held { λ r. ⌜ ((line : List ℕ) → Before long line → Held (now (buf .exit)) (r .have) (r .long) (line ++ part from end (now (buf .entry)))) ⌝ }
+    ensures kept { λ r. ⌜ r ≡ keptOf long from end ⌝ }
+    ensures buffer { λ _. ⌜ now (buf .exit) ≡ keptBuffer long from end (now (buf .entry)) ⌝ }
 {
     let many = end - from;
     if long {
@@ -131,7 +132,8 @@ pub fn finish(
 ) -> usize
     requires { ⌜ (have ≤ length (now buf)) × (at + 16911 ≤ length (now out)) ⌝ }
     ensures room { λ r. ⌜ r ≤ at + 16911 ⌝ }
-    ensures last { λ r. ⌜ ((line : List ℕ) → Held (now (buf .entry)) have long line → Written (now (out .entry)) (now (out .exit)) at r (lastText 256 512 (imageOf (now (img .entry))) line)) ⌝ }
+    ensures text { λ r. ⌜ Written (now (out .entry)) (now (out .exit)) at r (endingText 256 512 long (imageOf (now (img .entry))) (take have (now (buf .entry)))) ⌝ }
+    ensures image { λ _. ⌜ Leaves (now (img .entry)) (now (img .exit)) (endingKept 256 512 long (imageOf (now (img .entry))) (take have (now (buf .entry)))) (endingImage 256 512 long (imageOf (now (img .entry))) (take have (now (buf .entry)))) ⌝ }
 {
     if long {
         return put_bad(out, at);

@@ -24,7 +24,7 @@ same-length-3 : tie.Need-same-length-3
 same-length-3 c = search needs
 
 returns-2 : tie.Need-returns-2
-returns-2 c = (omega arith, ended-short (c .before .before .before .before .before .before .before .if1 .left) (c .before .before .before .before .line .ensures .1 .0) (c .before .before .before .before .line .ensures .1 .1 .words))
+returns-2 c = (omega arith, ended-short (c .before .before .before .before .before .before .before .if1 .left) (c .before .before .before .before .line .ensures .1 .0) (c .before .before .before .before .line .ensures .1 .1))
 
 pub ended-spec : {M : Type 1} → statement M
 ended-spec =

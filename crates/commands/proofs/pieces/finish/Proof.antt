@@ -1,8 +1,10 @@
 -- `pieces::finish` meets its contract. Assumes nothing.
 use native.Mathlib.Omega.{arith}
+use lib.ListN.{take}
 use Rattle.records.specs.Layout.{imageOf}
+use Rattle.inspection.specs.Outcome.{left-alone}
 use Rattle.texts.specs.Put.{reads, nothing}
-use Rattle.commands.specs.Pieces.{last-long, last-front, last-none}
+use Rattle.commands.specs.Pieces.{leaves-as, ending-long, ending-front, ending-none}
 use borrow.Author.Needs.{needs}
 use Rattle.commands.proofs.pieces.finish.Statement.{statement}
 use Rattle.commands.proofs.pieces.finish.Tie as tie
@@ -14,7 +16,9 @@ same-length : tie.Need-same-length
 same-length c = search needs
 
 returns : tie.Need-returns
-returns c = (omega arith, λ line h. reads (last-long 256 512 (imageOf (c .before .before .before .before .before .before .before .before .args .img .now)) line (h .marked (c .before .before .before .before .if1 .taken))) (c .before .before .put-bad .ensures .1))
+returns c =
+    let said = ending-long 256 512 (imageOf (c .before .before .before .before .before .before .before .before .args .img .now)) (take (c .before .before .before .before .before .before .before .before .args .have) (c .before .before .before .before .before .before .before .before .args .buf .now)) (c .before .before .before .before .before .before .before .before .args .long) (c .before .before .before .before .if1 .taken) in
+    (omega arith, (reads (said .0) (c .before .before .put-bad .ensures .1), left-alone (said .1)))
 
 sub-line : tie.Need-sub-line
 sub-line c = search needs
@@ -35,10 +39,14 @@ same-length-3 : tie.Need-same-length-3
 same-length-3 c = search needs
 
 returns-2 : tie.Need-returns-2
-returns-2 c = (omega arith, λ line h. reads (last-front 256 512 (imageOf (c .before .before .before .before .before .before .before .before .before .before .before .before .before .args .img .now)) (c .before .before .before .before .before .before .before .before .before .before .before .before .before .args .buf .now) (c .before .before .before .before .before .before .before .before .before .before .before .before .before .args .have) line (c .before .before .before .before .before .before .before .before .if2 .taken) (omega arith) (h .front (c .before .before .before .before .before .before .before .before .before .if1 .left))) (c .before .before .before .before .line .ensures .1 .0))
+returns-2 c =
+    let said = ending-front 256 512 (imageOf (c .before .before .before .before .before .before .before .before .before .before .before .before .before .args .img .now)) (c .before .before .before .before .before .before .before .before .before .before .before .before .before .args .buf .now) (c .before .before .before .before .before .before .before .before .before .before .before .before .before .args .have) (c .before .before .before .before .before .before .before .before .before .before .before .before .before .args .long) (c .before .before .before .before .before .before .before .before .before .if1 .left) (c .before .before .before .before .before .before .before .before .if2 .taken) (omega arith) in
+    (omega arith, (reads (said .0) (c .before .before .before .before .line .ensures .1 .0), leaves-as (said .2) (said .1) (c .before .before .before .before .line .ensures .1 .1)))
 
 returns-3 : tie.Need-returns-3
-returns-3 c = (omega arith, λ line h. reads (last-none 256 512 (imageOf (c .before .before .before .before .before .args .img .now)) (c .before .before .before .before .before .args .buf .now) (c .before .before .before .before .before .args .have) line (omega arith) (h .front (c .before .if1 .left))) nothing)
+returns-3 c =
+    let said = ending-none 256 512 (imageOf (c .before .before .before .before .before .args .img .now)) (c .before .before .before .before .before .args .buf .now) (c .before .before .before .before .before .args .have) (c .before .before .before .before .before .args .long) (c .before .if1 .left) (omega arith) in
+    (omega arith, (reads (said .0) nothing, left-alone (said .1)))
 
 pub finish-spec : {M : Type 1} → statement M
 finish-spec =
