@@ -5,3 +5,4 @@ pub mod Examples
 pub mod Whole
 pub mod Pieces
 pub mod Once
+pub mod Feeding

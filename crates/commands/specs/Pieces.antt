@@ -120,6 +120,9 @@ part at end bytes = take (end - at) (drop at bytes)
 pub part-none : (at : ℕ) (bytes : List ℕ) → part at at bytes ≡ []
 part-none at bytes = let z : at - at ≡ 0 = omega arith in rw z
 
+pub part-front : (j : ℕ) (bytes : List ℕ) → part 0 j bytes ≡ take j bytes
+part-front j bytes = let z : j - 0 ≡ j = omega arith in rw z
+
 pub part-cons : (at end : ℕ) (bytes : List ℕ) → at < end → end ≤ length bytes → part at end bytes ≡ getD bytes at 0 ∷ part (at + 1) end bytes
 part-cons at end bytes h k =
     let n : end - at ≡ suc (end - suc at) = omega arith in
@@ -294,7 +297,7 @@ pub record Held (buf : List ℕ) (have : ℕ) (long : Bool) (line : List ℕ) : 
 held-marked : (buf line : List ℕ) → 80 < length line → Held buf 0 true line
 held-marked buf line h = record { marked = λ e. h; empty = λ e. refl; front = λ e. absurd (false≢true (sym e)) }
 
-held-front : (buf : List ℕ) (have : ℕ) (line : List ℕ) → take have buf ≡ line → Held buf have false line
+pub held-front : (buf : List ℕ) (have : ℕ) (line : List ℕ) → take have buf ≡ line → Held buf have false line
 held-front buf have line h = record { marked = λ e. absurd (false≢true e); empty = λ e. absurd (false≢true e); front = λ e. h }
 
 -- What is kept of the bytes from a place up to another, behind a line that is marked or not: nothing and the mark, or at most 80 bytes, which are moved to the front.

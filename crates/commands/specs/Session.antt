@@ -101,6 +101,14 @@ fed-kept-append m n ws line (b ∷ s) t =
     ap (λ (k : ℕ). either (byteKept m n ws line b) k) (fed-kept-append m n (byteImage m n ws line b) (byteLine line b) s t)
     ∙ sym (either-assoc (byteKept m n ws line b) (fedKept m n (byteImage m n ws line b) (byteLine line b) s) _)
 
+-- no other number than 0 and 1
+pub fed-kept-one : (m n : ℕ) (ws line bytes : List ℕ) → either (fedKept m n ws line bytes) 1 ≡ fedKept m n ws line bytes
+unfolding fedKept
+fed-kept-one m n ws line [] = refl
+fed-kept-one m n ws line (b ∷ bytes) =
+    either-assoc (byteKept m n ws line b) (fedKept m n (byteImage m n ws line b) (byteLine line b) bytes) 1
+    ∙ ap (λ (k : ℕ). either (byteKept m n ws line b) k) (fed-kept-one m n (byteImage m n ws line b) (byteLine line b) bytes)
+
 -- ---- piece after piece, and then the last line
 
 unfoldable pub piecesText : ℕ → ℕ → List ℕ → List ℕ → List (List ℕ) → List ℕ
