@@ -15,7 +15,7 @@ use Rattle.records.specs.Layout.{imageOf}
 use Rattle.inspection.specs.Outcome.{Leaves, left-alone}
 use Rattle.texts.specs.Put.{Written, then, nothing, reads}
 use Rattle.commands.specs.Session.{byteLine, fedText, fedImage, fedLine, fedKept, either, inputText, inputImage, inputKept, fed-text-append, fed-image-append, fed-line-append, fed-kept-append, fed-kept-one}
-use Rattle.commands.specs.Pieces.{Before, NoEnd, Fed, Held, part, part-append, part-front, no-end-part, fed-text-on, fed-image-on, fed-line-on, fed-kept-on, leaves-as, leaves-then, keptOf, keptBuffer, keep-holds, held-front, endingText, endingImage, endingKept, held-ending}
+use Rattle.commands.specs.Pieces.{Before, someLine, NoEnd, Fed, Held, part, part-append, part-front, no-end-part, fed-text-on, fed-image-on, fed-line-on, fed-kept-on, leaves-as, leaves-then, keptOf, keptBuffer, keep-holds, held-front, endingText, endingImage, endingKept, held-ending}
 
 -- ---- a line that has begun has no LF
 
@@ -150,17 +150,16 @@ module _ {bytes before img₁ out out₁ buf : List ℕ} {have at : ℕ} {long :
       let ws = fedImage 256 512 (imageOf before) [] bytes in
       let line = fedLine [] bytes in
       let a : Alike ws (hold .first) read line piece = subst (λ (l : List ℕ). Alike ws (hold .first) read l piece) (hold .whole) (same ws) in
-      let is : imageOf img₁ ≡ ws = x .image .words in
-      (
+      let is : imageOf img₁ ≡ ws = x .image .words in (
         reads
-        (ap (λ (t : List ℕ). fedText 256 512 (imageOf before) [] bytes ++ t) (ap (λ (u : List ℕ). fedText 256 512 u (hold .first) read) is ∙ a .text)
-        ∙ sym (fed-text-append 256 512 (imageOf before) [] bytes piece))
-        (then (x .text) (y .answer (hold .first) (hold .before))),
+            (ap (λ (t : List ℕ). fedText 256 512 (imageOf before) [] bytes ++ t) (ap (λ (u : List ℕ). fedText 256 512 u (hold .first) read) is ∙ a .text)
+            ∙ sym (fed-text-append 256 512 (imageOf before) [] bytes piece))
+            (then (x .text) (y .answer (hold .first) (hold .before))),
         leaves-as
-        (ap (either (fedKept 256 512 (imageOf before) [] bytes)) (ap (λ (u : List ℕ). fedKept 256 512 u (hold .first) read) is ∙ a .kept)
-        ∙ sym (fed-kept-append 256 512 (imageOf before) [] bytes piece))
-        (ap (λ (u : List ℕ). fedImage 256 512 u (hold .first) read) is ∙ a .image ∙ sym (fed-image-append 256 512 (imageOf before) [] bytes piece))
-        (leaves-then (x .image) (y .image (hold .first) (hold .before))),
+            (ap (either (fedKept 256 512 (imageOf before) [] bytes)) (ap (λ (u : List ℕ). fedKept 256 512 u (hold .first) read) is ∙ a .kept)
+            ∙ sym (fed-kept-append 256 512 (imageOf before) [] bytes piece))
+            (ap (λ (u : List ℕ). fedImage 256 512 u (hold .first) read) is ∙ a .image ∙ sym (fed-image-append 256 512 (imageOf before) [] bytes piece))
+            (leaves-then (x .image) (y .image (hold .first) (hold .before))),
       )
 
   -- a whole piece: `wide` is the buffer with the piece behind what is held, and no LF is left in it
@@ -205,9 +204,48 @@ module _ {bytes before img₁ out out₁ buf : List ℕ} {have at : ℕ} {long :
   sofar-last w l =
       let ws = fedImage 256 512 (imageOf before) [] bytes in
       let is : imageOf img₁ ≡ ws = x .image .words in
-      let said = held-ending 256 512 ws (x .held) in
-      (
+      let said = held-ending 256 512 ws (x .held) in (
         then (x .text) (reads (ap (λ (u : List ℕ). endingText 256 512 long u (take have buf)) is ∙ said .0) w),
         leaves-then (x .image)
-        (leaves-as (ap (λ (u : List ℕ). endingKept 256 512 long u (take have buf)) is ∙ said .2) (ap (λ (u : List ℕ). endingImage 256 512 long u (take have buf)) is ∙ said .1) l),
+            (leaves-as (ap (λ (u : List ℕ). endingKept 256 512 long u (take have buf)) is ∙ said .2) (ap (λ (u : List ℕ). endingImage 256 512 long u (take have buf)) is ∙ said .1) l),
       )
+
+-- ---- where the answers are taken away in between: the image, and the line that has begun
+
+pub record Passed (long : Bool) (bytes before after : List ℕ) (long′ : Bool) : Type 0 where
+  pub image : (line : List ℕ) → Before long line
+      → Leaves before after (fedKept 256 512 (imageOf before) line bytes) (fedImage 256 512 (imageOf before) line bytes)
+  pub line : (line : List ℕ) → Before long line → Before long′ (fedLine line bytes)
+
+pub passed-none : {long : Bool} {img : List ℕ} (bytes : List ℕ) → bytes ≡ [] → Passed long bytes img img long
+unfolding fedImage fedKept fedLine
+passed-none {long} {img} bytes e = rw e (record { image = λ line h. left-alone refl; line = λ line h. h })
+
+pub passed-more : {long over over₂ : Bool} {s t img₀ img₁ img₂ out out′ : List ℕ} {at behind : ℕ} (u : List ℕ) → s ++ t ≡ u
+    → Passed long s img₀ img₁ over → Fed over t img₁ img₂ out out′ at behind over₂ → Passed long u img₀ img₂ over₂
+passed-more {long} {over} {over₂} {s} {t} {img₀} {img₁} {img₂} {out} {out′} {at} {behind} u e x y =
+    subst (λ (l : List ℕ). Passed long l img₀ img₂ over₂) e
+    (record {
+      image = λ line h.
+          let g = fedLine line s in
+          leaves-as (sym (fed-kept-append 256 512 (imageOf img₀) line s t)) (sym (fed-image-append 256 512 (imageOf img₀) line s t))
+          (leaves-then (x .image line h)
+          (subst (λ (ws : List ℕ). Leaves img₁ img₂ (fedKept 256 512 ws g t) (fedImage 256 512 ws g t)) (x .image line h .words) (y .image g (x .line line h))));
+      line = λ line h. subst (Before over₂) (sym (fed-line-append line s t)) (y .line (fedLine line s) (x .line line h));
+    })
+
+-- where something was answered, a byte was read
+pub fed-moves : {long over : Bool} {img img′ out out′ : List ℕ} {at behind : ℕ} (bytes : List ℕ) (from j : ℕ) → from ≤ j → at < behind
+    → Fed long (part from j bytes) img img′ out out′ at behind over → from < j
+unfolding fedText
+fed-moves {long} {over} {img} {img′} {out} {out′} {at} {behind} bytes from j h k x = go (leb j from) refl
+  where
+    place : behind ≡ at + length (fedText 256 512 (imageOf img) (someLine long .0) (part from j bytes))
+    place = x .answer (someLine long .0) (someLine long .1) .place
+
+    go : (t : Bool) → leb j from ≡ t → from < j
+    go true e =
+        let l : j ≤ from = leb-true j from e in
+        let none : part from j bytes ≡ [] = let z : j - from ≡ 0 = omega arith in rw z in
+        absurd (omega (arith, place, ap (λ (b : List ℕ). length (fedText 256 512 (imageOf img) (someLine long .0) b)) none))
+    go false e = leb-false j from e

@@ -6,7 +6,7 @@ use mathlib.Core.Bool.{Bool, true, false, cond}
 use Prim.Native.Nat.{ℕ, _+_, _-_, _%_, _<_, _≤_}
 use native.Mathlib.Decide.{ℕ-discrete}
 use native.Mathlib.Omega.{arith}
-use lib.ListN.{length, getD, take, replicate, length-append, length-replicate}
+use lib.ListN.{length, getD, take, length-append}
 use lib.Dec.{eqb}
 use borrow.Author.Tests.{ne-eqb}
 use Rattle.words.specs.Words.{Bytes}
@@ -24,7 +24,7 @@ use Rattle.texts.specs.Lines.{commandOf}
 use Rattle.commands.specs.declared.pieces.Turn.{Turn}
 use Rattle.commands.specs.Answers.{imageAfter, keptBy}
 use Rattle.commands.specs.Session.{byteImage, byteLine, byteKept, fedText, fedImage, fedLine, fedKept, either, lastKept, fed-text-append}
-use Rattle.commands.specs.Pieces.{Before, Fed, Stopped, part, part-append, endingText, endingImage, endingKept}
+use Rattle.commands.specs.Pieces.{someLine, Fed, Stopped, part, part-append, endingText, endingImage, endingKept}
 
 -- ---- a line that writes has found an image of the right shape, and one that does not leaves every word
 
@@ -105,11 +105,6 @@ pub record AllowedLines (buf : List ℕ) (from end : ℕ) (long : Bool) (img out
   pub bytes : Bytes img′
   pub size : length img′ ≡ length img
 
--- some line that may have gone before
-someLine : (long : Bool) → (line : List ℕ) × Before long line
-someLine true = (replicate 81 0, omega (arith, length-replicate {A = ℕ} 81 0))
-someLine false = ([], refl)
-
 module _ {buf : List ℕ} {from end : ℕ} {long : Bool} {img out : List ℕ} {at : ℕ} {r s : Turn} {a b o p : List ℕ} where
   -- where one goes on, another does not stop: there is room, and an LF
   no-later : AllowedLines buf from end long img out at r a o → AllowedLines buf from end long img out at s b p → r .from < s .from → ⊥
@@ -152,8 +147,7 @@ answered-once {buf} {from} {end} {long} {img} {out} {at} {r} {s} {a} {b} {o} {p}
     let place : r .at ≡ s .at = x .lines .answer line begun .place ∙ sym (lines .answer line begun .place) in
     let mark : r .long ≡ s .long = same-mark (x .stopped) (subst (λ (k : ℕ). Stopped long buf img from at (length out) k (s .long)) here (y .stopped)) in
     let whole : fedKept 256 512 (imageOf img) line read ≡ 0 → length img % 4 ≡ 0 =
-    λ z. shaped-whole 256 512 img (fed-shaped 256 512 (imageOf img) line read z) in
-    (
+    λ z. shaped-whole 256 512 img (fed-shaped 256 512 (imageOf img) line read z) in (
       λ ι. record { from = sym here ι; at = place ι; long = mark ι },
       one-outcome whole (x .bytes) (y .bytes) (x .size) (y .size) (x .lines .image line begun) (lines .image line begun),
       x .lines .answer line begun .bytes ∙ sym (lines .answer line begun .bytes),
@@ -171,8 +165,7 @@ pub finished-once : {buf : List ℕ} {have : ℕ} {long : Bool} {img out : List 
     → AllowedEnd buf have long img out at r a o → AllowedEnd buf have long img out at s b p → (r ≡ s) × (a ≡ b) × (o ≡ p)
 finished-once {buf} {have} {long} {img} {out} {at} {r} {s} {a} {b} {o} {p} x y =
     let whole : endingKept 256 512 long (imageOf img) (take have buf) ≡ 0 → length img % 4 ≡ 0 =
-    λ z. shaped-whole 256 512 img (ending-shaped 256 512 long (imageOf img) (take have buf) z) in
-    (
+    λ z. shaped-whole 256 512 img (ending-shaped 256 512 long (imageOf img) (take have buf) z) in (
       x .text .place ∙ sym (y .text .place),
       one-outcome whole (x .bytes) (y .bytes) (x .size) (y .size) (x .image) (y .image),
       x .text .bytes ∙ sym (y .text .bytes),

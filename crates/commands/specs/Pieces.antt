@@ -6,7 +6,7 @@ use mathlib.Core.Bool.{Bool, true, false, cond, _||_, false≢true}
 use Prim.Native.Nat.{ℕ, zero, suc, _+_, _-_, _<_, _≤_}
 use native.Mathlib.Numerals.{add-one}
 use native.Mathlib.Omega.{arith}
-use lib.ListN.{length, getD, set, take, drop, length-append, length-drop, length-set, take-append-drop}
+use lib.ListN.{length, getD, set, take, drop, replicate, length-append, length-drop, length-set, length-replicate, take-append-drop}
 use lib.Seq.{drop-cons, take-add, drop-drop, length-take-le, take-at, take-suc, take-suc-set, drop-set-lt, getD-drop}
 use lib.Dec.{eqb, ltb}
 use borrow.Author.Tests.{ne-eqb, eqb-false, ltb-true}
@@ -46,6 +46,11 @@ long-bad line h =
 abbrev pub Before : Bool → List ℕ → Type 0
 Before true line = 80 < length line
 Before false line = line ≡ []
+
+-- some line that may have gone before
+pub someLine : (long : Bool) → (line : List ℕ) × Before long line
+someLine true = (replicate 81 0, omega (arith, length-replicate {A = ℕ} 81 0))
+someLine false = ([], refl)
 
 -- ---- what lines leave, one after the other
 

@@ -6,8 +6,14 @@ use commands::pieces::finish;
 use commands::pieces::keep;
 use lookup::start::start;
 use records::Done;
-ghost use Prim.Native.Nat.{_+_, _≤_};
-ghost use lib.ListN.{length};
+ghost use mathlib.Core.Path.{_≡_};
+ghost use mathlib.Core.Bool.{true};
+ghost use Prim.Native.Nat.{ℕ, _+_, _<_, _≤_};
+ghost use lib.ListN.{length, getD, take};
+ghost use Rattle.records.specs.Layout.{imageOf};
+ghost use Rattle.inspection.specs.Outcome.{Leaves};
+ghost use Rattle.commands.specs.Pieces.{part, endingImage, endingKept};
+ghost use Rattle.commands.specs.Feeding.{Passed};
 
 // Where a piece ends: the first byte of the line that has begun, whether it is too long already, and whether every answer was written.
 struct Answered {
@@ -24,10 +30,12 @@ fn read_part(buf: &mut [u8]) -> usize
     io::count(got, buf)
 }
 
-// Answers a piece, and writes the answers: whenever the output is full, and at the end.
+// Answers a piece, and writes the answers: whenever the output is full, and at the end. Then no LF is left.
 fn answer_piece(buf: &[u8], end: usize, long: bool, img: &mut [u8], out: &mut [u8]) -> Answered
     requires { ⌜ (end ≤ length (now buf)) × (end ≤ 65536) × (16911 ≤ length (now out)) ⌝ }
-    ensures { λ r. ⌜ r .from ≤ end ⌝ }
+    ensures within { λ r. ⌜ r .from ≤ end ⌝ }
+    ensures image { λ r. ⌜ Passed long (part 0 (r .from) (now (buf .entry))) (now (img .entry)) (now (img .exit)) (r .long) ⌝ }
+    ensures left { λ r. ⌜ (r .written ≡ true → (k : ℕ) → r .from ≤ k → k < end → getD (now (buf .entry)) k 0 ≡ 10 → ⊥) ⌝ }
 {
     let mut from: usize = 0;
     let mut over = long;
@@ -59,6 +67,7 @@ fn answer_piece(buf: &[u8], end: usize, long: bool, img: &mut [u8], out: &mut [u
 // The input has ended: a last line without LF.
 fn answer_last(buf: &[u8], have: usize, long: bool, img: &mut [u8], out: &mut [u8])
     requires { ⌜ (have ≤ length (now buf)) × (16911 ≤ length (now out)) ⌝ }
+    ensures { λ _. ⌜ Leaves (now (img .entry)) (now (img .exit)) (endingKept 256 512 long (imageOf (now (img .entry))) (take have (now (buf .entry)))) (endingImage 256 512 long (imageOf (now (img .entry))) (take have (now (buf .entry)))) ⌝ }
 {
     let at = finish(buf, have, long, img, out, 0);
     io::write_all(1, &out[0..at]);

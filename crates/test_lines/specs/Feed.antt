@@ -52,8 +52,7 @@ module _ {before img₁ out out₁ buf : List ℕ} {have at : ℕ} {long : Bool}
       let some : take from text ++ take (j - have) (part from (from + many) text) ≡ take (from + (j - have)) text =
       ap (λ (l : List ℕ). take from text ++ l) (ap (λ (i : ℕ). take (j - have) (take i (drop from text))) of-text ∙ take-take (j - have) many (drop from text) (omega arith))
       ∙ sym (take-add from (j - have) text) in
-      let said = sofar-part x (part from (from + many) text) wide j (have + many) is (length-take-le have buf room) h y in
-      (
+      let said = sofar-part x (part from (from + many) text) wide j (have + many) is (length-take-le have buf room) h y in (
         from + (j - have),
         omega arith,
         subst (λ (l : List ℕ). Written out out₂ 0 at₂ (fedText 256 512 (imageOf before) [] l)) some (said .0),

@@ -48,10 +48,7 @@ fn feed(text: &[u8], size: usize, img: &mut [u8], buf: &mut [u8], out: &mut [u8]
         let t = answer_lines(buf, 0, end, long, img, out, at);
         at = t.at;
         if out.len() - at < 16911 {
-            return Reply {
-                at,
-                whole: false,
-            };
+            return Reply { at, whole: false };
         }
         let kept = keep(buf, t.from, end, t.long);
         have = kept.have;

@@ -81,11 +81,15 @@ returns c =
     let new = c .before .before .before .before .before .before .before .before .before .before .before .copy .last .1 .0 in
     let behind = drop (length buf - have) (drop have buf) in
     let long : length piece ≡ many = omega (arith, part-length from (from + many) text (omega arith) (omega arith)) in
-    let is = laid buf piece new (drop (length piece) (take (length buf - have) (drop have buf))) behind have many (omega arith) long (c .before .before .before .before .before .before .before .before .before .before .before .copy .ensures .1) in
-    (
+    let is = laid buf piece new (drop (length piece) (take (length buf - have) (drop have buf))) behind have many (omega arith) long (c .before .before .before .before .before .before .before .before .before .before .before .copy .ensures .1) in (
       omega arith,
-      ((λ e. absurd (false≢true e)), ((λ e. absurd (false≢true e)),
-      λ e. (omega arith, feed-part text from many (omega arith) (c .before .before .before .before .before .before .before .before .before .before .before .before .before .before .before .before .loop .inv .6) (take have buf ++ (new ++ behind)) is (c .before .before .before .before .before .answer-lines .result .from) (omega arith) (omega arith) (c .before .before .before .before .before .answer-lines .ensures .1 .0)))),
+      (
+        (λ e. absurd (false≢true e)),
+        (
+          (λ e. absurd (false≢true e)),
+          λ e. (omega arith, feed-part text from many (omega arith) (c .before .before .before .before .before .before .before .before .before .before .before .before .before .before .before .before .loop .inv .6) (take have buf ++ (new ++ behind)) is (c .before .before .before .before .before .answer-lines .result .from) (omega arith) (omega arith) (c .before .before .before .before .before .answer-lines .ensures .1 .0)),
+        ),
+      ),
     )
 
 keep-requires : tie.Need-keep-requires Inv-loop μ-loop
@@ -110,11 +114,15 @@ loop-again c =
     let room : have + many ≤ length buf = omega (arith, inv .1, inv .5, pre, got) in
     let fits : from + many ≤ length text = omega (arith, got) in
     let long : length piece ≡ many = omega (arith, part-length from (from + many) text (omega arith) (omega arith)) in
-    let is = laid buf piece new (drop (length piece) (take (length buf - have) (drop have buf))) behind have many (omega (arith, room)) long (c .before .before .before .before .before .before .before .before .before .before .before .before .before .before .before .copy .ensures .1) in
-    (
-      omega arith, omega arith, omega arith, omega arith, omega arith, omega arith,
+    let is = laid buf piece new (drop (length piece) (take (length buf - have) (drop have buf))) behind have many (omega (arith, room)) long (c .before .before .before .before .before .before .before .before .before .before .before .before .before .before .before .copy .ensures .1) in (
+      omega arith,
+      omega arith,
+      omega arith,
+      omega arith,
+      omega arith,
+      omega arith,
       feed-more text from many fits (c .before .before .before .before .before .before .before .before .before .before .before .before .before .before .before .before .before .before .before .before .loop .inv .6) (take have buf ++ (new ++ behind)) is (c .before .before .before .before .before .before .before .before .before .answer-lines .result .from) (c .before .before .keep .result) (c .before .before .keep .last .0) (omega arith) (omega arith)
-      (c .before .before .before .before .before .before .before .before .before .answer-lines .ensures .1 .1 .1 (omega arith)) (c .before .before .before .before .before .before .before .before .before .answer-lines .ensures .1 .0) (c .before .before .keep .ensures .1 .0) (c .before .before .keep .ensures .1 .1),
+          (c .before .before .before .before .before .before .before .before .before .answer-lines .ensures .1 .1 .1 (omega arith)) (c .before .before .before .before .before .before .before .before .before .answer-lines .ensures .1 .0) (c .before .before .keep .ensures .1 .0) (c .before .before .keep .ensures .1 .1),
     )
 
 finish-requires : tie.Need-finish-requires Inv-loop μ-loop

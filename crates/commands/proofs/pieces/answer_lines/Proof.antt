@@ -48,9 +48,12 @@ loop-again c =
     let start = c .before .before .before .before .before .before .before .before .before .before .before .before .loop .start in
     let stop = c .before .before .before .before .before .before .before .before .before .line-end .result in
     let lf = c .before .before .before .before .before .before .before .before .before .line-end .ensures .1 .1 (omega arith) in
-    let on = no-end-part buf start stop (omega arith) (omega arith) (c .before .before .before .before .before .before .before .before .before .line-end .ensures .1 .0) in
-    (
-      omega arith, omega arith, omega arith, omega arith, omega arith,
+    let on = no-end-part buf start stop (omega arith) (omega arith) (c .before .before .before .before .before .before .before .before .before .line-end .ensures .1 .0) in (
+      omega arith,
+      omega arith,
+      omega arith,
+      omega arith,
+      omega arith,
       fed-more (part from (stop + 1) buf) (part-line from start stop buf (omega arith) (omega arith) (omega arith) lf) on (c .before .before .before .before .before .before .before .before .before .before .before .before .loop .inv .5) (c .before .before .before .before .ended .ensures .1),
       stopped-more buf from start stop (length (c .before .before .before .before .before .before .before .before .before .before .before .before .before .before .before .before .args .out .now)) (omega arith) (omega arith) lf on (omega arith) (c .before .before .before .before .before .before .before .before .before .before .before .before .loop .inv .5),
     )
