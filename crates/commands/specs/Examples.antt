@@ -1,6 +1,7 @@
--- Lines and answers, computed.
+-- Lines and answers, and what is kept of a line that has begun, computed.
 use mathlib.Core.Path.{_≡_, refl}
 use mathlib.Core.List.{List, [], _∷_, _++_}
+use mathlib.Core.Bool.{true, false}
 use Prim.Native.Nat.{ℕ, _+_, _^_}
 use lib.ListN.{replicate}
 use Rattle.records.specs.Numbers.{refusalNumber}
@@ -13,6 +14,7 @@ use Rattle.texts.specs.Digits.{glyph, digits, widthOf, decimalOf, isDigit, digi
 use Rattle.texts.specs.Lines.{wordAt, fieldAt, oneField, twoFields, keyAsked, bothAsked, aloneAsked, letterAsked, commandOf}
 use Rattle.texts.specs.Texts.{pairText, valueText, entryText, endText, refusalText}
 use Rattle.commands.specs.Answers.{placeText, goneText, valText, doneText}
+use Rattle.commands.specs.Pieces.{keptOf, keptBuffer}
 
 -- thirty-one digits `0`, and a byte behind them
 abbrev zeros31 : ℕ → List ℕ
@@ -54,3 +56,14 @@ pub worked-answers :
     × (endText 2 ≡ 101 ∷ 110 ∷ 100 ∷ 32 ∷ 50 ∷ 10 ∷ [])
 unfolding placeText valText goneText doneText refusalText refusalNumber pairText valueText entryText endText decimalOf widthOf digits glyph
 worked-answers = (refl, refl, refl, refl, refl, refl, refl, refl, refl)
+
+pub worked-kept :
+    -- the two bytes from place 3 on go to the front, and those behind them stay
+    (keptOf false 3 5 ≡ record { have = 2; long = false })
+    × (keptBuffer false 3 5 (1 ∷ 2 ∷ 3 ∷ 4 ∷ 5 ∷ []) ≡ 4 ∷ 5 ∷ 3 ∷ 4 ∷ 5 ∷ [])
+    -- 80 bytes are kept, 81 are marked, and a line that is marked stays so
+    × (keptOf false 0 80 ≡ record { have = 80; long = false })
+    × (keptOf false 0 81 ≡ record { have = 0; long = true })
+    × (keptOf true 3 5 ≡ record { have = 0; long = true })
+    × (keptBuffer true 3 5 (1 ∷ 2 ∷ 3 ∷ 4 ∷ 5 ∷ []) ≡ 1 ∷ 2 ∷ 3 ∷ 4 ∷ 5 ∷ [])
+worked-kept = (refl, refl, refl, refl, refl, refl)

@@ -1,4 +1,4 @@
--- What the contracts of `commands` cite: what a command is answered, lines one after the other, and lines in pieces.
+-- What the contracts of `commands` cite: what a command is answered, lines one after the other, and lines in pieces; that no second outcome fits; and what piece after piece comes to.
 pub mod Answers
 pub mod Session
 pub mod Examples

@@ -23,7 +23,7 @@ use Rattle.texts.specs.Put.{Written}
 use Rattle.texts.specs.Lines.{commandOf}
 use Rattle.commands.specs.declared.pieces.Turn.{Turn}
 use Rattle.commands.specs.Answers.{imageAfter, keptBy}
-use Rattle.commands.specs.Session.{byteImage, byteLine, byteKept, fedText, fedImage, fedLine, fedKept, either, lastKept, fed-text-append}
+use Rattle.commands.specs.Session.{byteImage, byteLine, byteKept, fedText, fedImage, fedLine, fedKept, lastKept, fed-text-append}
 use Rattle.commands.specs.Pieces.{someLine, Fed, Stopped, part, part-append, endingText, endingImage, endingKept}
 
 -- ---- a line that writes has found an image of the right shape, and one that does not leaves every word

@@ -1,20 +1,23 @@
 -- A text that is fed piece by piece: each piece is copied behind what is held, the lines that end in it are answered, and what has begun is kept.
-use mathlib.Core.Path.{_≡_, sym, ap, subst, _∙_}
+use mathlib.Core.Path.{_≡_, refl, sym, ap, subst, _∙_}
 use mathlib.Core.List.{List, [], _++_, append-assoc}
-use mathlib.Core.Bool.{Bool}
-use Prim.Native.Nat.{ℕ, _+_, _-_, _<_, _≤_}
+use mathlib.Core.Bool.{Bool, true, false, cond}
+use Prim.Native.Nat.{ℕ, _+_, _-_, _%_, _<_, _≤_}
 use native.Mathlib.Omega.{arith}
-use lib.ListN.{length, getD, take, drop}
+use lib.ListN.{length, getD, take, drop, replicate}
 use lib.Seq.{take-add, take-all, take-append-add, take-at, take-length, take-take, length-take-le}
+use lib.Dec.{eqb}
+use Rattle.words.specs.Words.{words}
 use Rattle.records.specs.Layout.{imageOf}
 use Rattle.inspection.specs.Outcome.{Leaves}
+use Rattle.lookup.specs.Start.{startImage}
 use Rattle.texts.specs.Put.{Written}
 use Rattle.commands.specs.declared.pieces.Kept.{Kept}
 use Rattle.commands.specs.Session.{fedText, fedImage, fedKept, inputText, inputImage, inputKept}
-use Rattle.commands.specs.Pieces.{Fed, part, part-length, part-front, keptOf, keptBuffer, endingText, endingImage, endingKept}
+use Rattle.commands.specs.Pieces.{Fed, part, part-front, keptOf, keptBuffer, endingText, endingImage, endingKept}
 use Rattle.commands.specs.Feeding.{Sofar, sofar-more, sofar-part, sofar-last}
 
--- the piece is copied behind what is held: `part-of` is the rest of the buffer with the piece at its front
+-- the piece is copied behind what is held: `new` is the rest of the buffer with the piece at its front
 pub laid : (buf piece new rest behind : List ℕ) (have many : ℕ) → have ≤ length buf → length piece ≡ many → new ≡ take (length piece) piece ++ rest
     → part 0 (have + many) (take have buf ++ (new ++ behind)) ≡ take have buf ++ piece
 laid buf piece new rest behind have many h long e =
@@ -68,3 +71,20 @@ pub feed-last : {before img₁ img₂ out out₁ out₂ buf : List ℕ} {have at
     × Leaves before img₂ (inputKept 256 512 (imageOf before) text) (inputImage 256 512 (imageOf before) text)
 feed-last {before} {img₁} {img₂} {out} {out₁} {out₂} {buf} {have} {at} {at₂} {long} text from h x w l =
     sofar-last (subst (λ (b : List ℕ). Sofar b before img₁ out out₁ buf have long at) (take-all from text h) x) w l
+
+-- ---- a run on a new map
+
+-- a buffer of which every word is 0 holds as many words as it did
+cleared : (a b : List ℕ) → length b ≡ length a → words b ≡ replicate (length (words a)) 0 → imageOf b ≡ replicate (length (imageOf a)) 0
+unfolding imageOf
+cleared a b long e = rw (long, e) (go (eqb (length a % 4) 0))
+  where
+    go : (t : Bool) → cond t (replicate {A = ℕ} (length (words a)) 0) [] ≡ replicate (length (cond t (words a) [])) 0
+    go true = refl
+    go false = refl
+
+pub on-new : {whole : Bool} {img₁ img₂ out out′ : List ℕ} {at number : ℕ} (img text : List ℕ) → length img₁ ≡ length img → words img₁ ≡ replicate (length (words img)) 0
+    → Leaves img₁ img₂ number (startImage 256 512 (imageOf img₁)) → (whole ≡ true → Written out out′ 0 at (inputText 256 512 (imageOf img₂) text))
+    → whole ≡ true → Written out out′ 0 at (inputText 256 512 (startImage 256 512 (replicate (length (imageOf img)) 0)) text)
+on-new {whole} {img₁} {img₂} {out} {out′} {at} {number} img text long zeros x y e =
+    subst (λ (ws : List ℕ). Written out out′ 0 at (inputText 256 512 ws text)) (x .words ∙ ap (startImage 256 512) (cleared img img₁ long zeros)) (y e)

@@ -8,9 +8,10 @@ ghost use mathlib.Core.Path.{_≡_};
 ghost use mathlib.Core.List.{[]};
 ghost use mathlib.Core.Bool.{true, false};
 ghost use Prim.Native.Nat.{ℕ, _+_, _≤_, _<_};
-ghost use lib.ListN.{length, take};
+ghost use lib.ListN.{length, take, replicate};
 ghost use Rattle.records.specs.Layout.{imageOf};
 ghost use Rattle.inspection.specs.Outcome.{Leaves};
+ghost use Rattle.lookup.specs.Start.{startImage};
 ghost use Rattle.texts.specs.Put.{Written};
 ghost use Rattle.commands.specs.Session.{fedText, fedImage, fedKept, inputText, inputImage, inputKept};
 
@@ -65,7 +66,8 @@ fn feed(text: &[u8], size: usize, img: &mut [u8], buf: &mut [u8], out: &mut [u8]
 // A run on a new map.
 fn run(text: &[u8], size: usize, img: &mut [u8], buf: &mut [u8], out: &mut [u8]) -> Reply
     requires { ⌜ (1 ≤ size) × (80 + size ≤ length (now buf)) × (16911 ≤ length (now out)) ⌝ }
-    ensures { λ r. ⌜ r .at ≤ length (now (out .entry)) ⌝ }
+    ensures within { λ r. ⌜ r .at ≤ length (now (out .entry)) ⌝ }
+    ensures text { λ r. ⌜ (r .whole ≡ true → Written (now (out .entry)) (now (out .exit)) 0 (r .at) (inputText 256 512 (startImage 256 512 (replicate (length (imageOf (now (img .entry)))) 0)) (now (text .entry)))) ⌝ }
 {
     words::clear(img);
     start(img, 256, 512);
