@@ -35,7 +35,7 @@ use Rattle.accepted_lookup.specs.Answers.{listed}
 use Rattle.accepted_insert.specs.Call.{insert-agrees}
 use Rattle.histories.specs.Agrees.{Is, agrees}
 use Rattle.histories.specs.Indexes.{address-names}
-use Rattle.histories.specs.NotEmpty.{Limits}
+use Rattle.histories.specs.NotEmpty.{Limits, zeroWords, zeros-are}
 use Rattle.histories.specs.Demands.{Holding, holding-accepted}
 use Rattle.lent.specs.Histories.{Ran, blank-bytes}
 use Rattle.lent.specs.Histories as lent
@@ -166,11 +166,15 @@ from-start m n ws i input =
       next = λ line. one-text x (commandOf line) (asked-fits line);
     }
 
--- The program's first state is a buffer of 32,816 zero bytes, M 256 and N 512, that `start` was called on (`main`, crate `logfringe`): of `start` nothing is asked but what its contract says.
 limits : Limits 256 512
 limits = record { some = omega arith; most = omega arith; twice = omega arith; most-nodes = omega arith }
 
+-- The program's first state is a buffer of 32,816 zero bytes, M 256 and N 512, that `start` was called on (`main`, crate `logfringe`): of `start` nothing is asked but what its contract says.
 pub program-is-the-list : (zeros img : List ℕ) (a : Answer) → length zeros ≡ 32816 → ((k : ℕ) → getD zeros k 0 ≡ 0) → Ran 256 512 lent.start zeros a img
     → (input : List ℕ) → ProgramIs 256 512 (imageOf img) input
 program-is-the-list zeros img a long each r input =
     subst (λ (ws : List ℕ). ProgramIs 256 512 ws input) (sym (r .1 .words)) (from-start 256 512 (imageOf zeros) (blank-bytes 256 512 limits zeros long each) input)
+
+-- The same in words, as the test of pieces begins (`run`, crate `test_lines`).
+pub program-on-zero-words : (input : List ℕ) → ProgramIs 256 512 (startImage 256 512 (zeroWords 256 512)) input
+program-on-zero-words input = from-start 256 512 (zeroWords 256 512) (zeros-are 256 512 limits) input
