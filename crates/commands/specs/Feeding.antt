@@ -212,19 +212,19 @@ module _ {bytes before img₁ out out₁ buf : List ℕ} {have at : ℕ} {long :
 
 -- ---- where the answers are taken away in between: the image, and the line that has begun
 
-pub record Passed (long : Bool) (bytes before after : List ℕ) (long′ : Bool) : Type 0 where
+pub record PieceLeaves (long : Bool) (bytes before after : List ℕ) (long′ : Bool) : Type 0 where
   pub image : (line : List ℕ) → Before long line
       → Leaves before after (fedKept 256 512 (imageOf before) line bytes) (fedImage 256 512 (imageOf before) line bytes)
   pub line : (line : List ℕ) → Before long line → Before long′ (fedLine line bytes)
 
-pub passed-none : {long : Bool} {img : List ℕ} (bytes : List ℕ) → bytes ≡ [] → Passed long bytes img img long
+pub piece-none : {long : Bool} {img : List ℕ} (bytes : List ℕ) → bytes ≡ [] → PieceLeaves long bytes img img long
 unfolding fedImage fedKept fedLine
-passed-none {long} {img} bytes e = rw e (record { image = λ line h. left-alone refl; line = λ line h. h })
+piece-none {long} {img} bytes e = rw e (record { image = λ line h. left-alone refl; line = λ line h. h })
 
-pub passed-more : {long over over₂ : Bool} {s t img₀ img₁ img₂ out out′ : List ℕ} {at behind : ℕ} (u : List ℕ) → s ++ t ≡ u
-    → Passed long s img₀ img₁ over → Fed over t img₁ img₂ out out′ at behind over₂ → Passed long u img₀ img₂ over₂
-passed-more {long} {over} {over₂} {s} {t} {img₀} {img₁} {img₂} {out} {out′} {at} {behind} u e x y =
-    subst (λ (l : List ℕ). Passed long l img₀ img₂ over₂) e
+pub piece-more : {long over over₂ : Bool} {s t img₀ img₁ img₂ out out′ : List ℕ} {at behind : ℕ} (u : List ℕ) → s ++ t ≡ u
+    → PieceLeaves long s img₀ img₁ over → Fed over t img₁ img₂ out out′ at behind over₂ → PieceLeaves long u img₀ img₂ over₂
+piece-more {long} {over} {over₂} {s} {t} {img₀} {img₁} {img₂} {out} {out′} {at} {behind} u e x y =
+    subst (λ (l : List ℕ). PieceLeaves long l img₀ img₂ over₂) e
     (record {
       image = λ line h.
           let g = fedLine line s in

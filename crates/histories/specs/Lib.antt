@@ -12,4 +12,3 @@ pub mod ShutOut
 pub mod Listings
 pub mod Examples
 pub mod Demands
-pub mod Lent

@@ -24,7 +24,7 @@ use Rattle.accepted.specs.Accepted.{Accepted}
 use Rattle.accepted_lookup.specs.Answers.{listed, get-agrees}
 use Rattle.accepted_check.specs.Exact.{check-sound}
 use Rattle.histories.specs.Shapes.{ascends}
-use Rattle.histories.specs.Lent.{lent-small}
+use Rattle.lent.specs.Answers.{lent-small}
 use Rattle.board.specs.Output.{valueBytes, lookupOf, outputAfter, long-enough}
 use Rattle.board.specs.Scratch.{boardCheck}
 use Rattle.board.specs.Promises.{Looked, Checked, output}

@@ -33,7 +33,7 @@ use Rattle.histories.specs.Agrees.{Is}
 use Rattle.histories.specs.Shapes.{ascends}
 use Rattle.histories.specs.NotEmpty.{Limits}
 use Rattle.histories.specs.Demands.{Ends, after-any-history}
-use Rattle.histories.specs.Lent.{lent-small}
+use Rattle.lent.specs.Answers.{lent-small}
 
 -- ---- the calls, with what the code's types let them be given
 

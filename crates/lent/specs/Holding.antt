@@ -5,17 +5,23 @@ use mathlib.Core.Bool.{Bool, true, false}
 use mathlib.Core.Option.{Option, none, some}
 use Prim.Native.Nat.{ℕ}
 use denote.Ref.{RefT, now}
+use Rattle.words.specs.Words.{words, Bytes}
+use Rattle.records.specs.declared.Done.the-variants as done
 use Rattle.records.specs.declared.Entry.{Entry}
 use Rattle.records.specs.Layout.{imageOf}
-use Rattle.lists.specs.Entries.{listEnd, restOf}
+use Rattle.full_check.specs.Check.{checkOf}
+use Rattle.lists.specs.Entries.{Rising, listEnd, restOf}
 use Rattle.lists.specs.Answers.{entryFrom}
 use Rattle.lists.specs.Machine.{Entries, State, blank, holding}
 use Rattle.trees.specs.Walk.{taken, run}
 use Rattle.accepted.specs.Accepted.{Accepted}
 use Rattle.accepted_lookup.specs.Answers.{listed}
+use Rattle.accepted_check.specs.Exact.{check-sound}
 use Rattle.accepted_listing.specs.Moments.{Moment, moment-made, moment-gives, moment-stepped}
 use Rattle.listing.specs.declared.Position.{Position}
 use Rattle.histories.specs.Agrees.{Is}
+use Rattle.histories.specs.Shapes.{ascends}
+use Rattle.lent.specs.Answers.{lent-small}
 use Rattle.histories.specs.Listings.{stateThen, leftsThen, Promised}
 use Rattle.lent.specs.Listings.{MoveRun, MoveRuns, movesOf, bufferThen, positionsLast, lent-watched}
 use Rattle.holding.specs.declared.Listing.{Listing}
@@ -28,10 +34,10 @@ heldSteps [] l = []
 heldSteps (back ∷ sides) l = heldStep back l .entry ∷ heldSteps sides (movedOn back l)
 
 -- the listing stands on an accepted image with this list, and so much is left of it
-abbrev pub Stands : Listing → Entries → Entries → Type 0
-Stands l es left = Moment (l .m) (l .n) (imageOf (now (l .image))) (l .position) es left
+abbrev pub StandsAt : Listing → Entries → Entries → Type 0
+StandsAt l es left = Moment (l .m) (l .n) (imageOf (now (l .image))) (l .position) es left
 
-pub held-steps : (l : Listing) (es left : Entries) → Stands l es left → (sides : List Bool) → heldSteps sides l ≡ map entryFrom (run taken left sides)
+pub held-steps : (l : Listing) (es left : Entries) → StandsAt l es left → (sides : List Bool) → heldSteps sides l ≡ map entryFrom (run taken left sides)
 held-steps l es left x [] = refl
 held-steps l es left x (back ∷ sides) =
     let here = moment-gives x back in
@@ -50,6 +56,12 @@ module _ (image : RefT (List ℕ)) (m n : ℕ) (a : Accepted m n (imageOf (now i
       let first = moment-gives x false in
       let last = moment-gives (moment-stepped x false) true in
       λ ι. record { first = first ι; last = last ι }
+
+-- On a buffer that the full check accepts: one ascending list, whose entries every order of steps gives from both its ends.
+pub holding-checked : (image : RefT (List ℕ)) (m n : ℕ) (scratch : List ℕ) → Bytes (now image) → checkOf m n (imageOf (now image)) (words scratch) ≡ done.Yes
+    → (es : Entries) × Rising es × ((sides : List Bool) → heldSteps sides (begun image m n) ≡ map entryFrom (run taken es sides))
+holding-checked image m n scratch small e =
+    let a = check-sound m n (imageOf (now image)) (words scratch) (lent-small (now image) small) e in (listed a, ascends a, holding-lists image m n a)
 
 -- ---- made since the last insert or remove
 

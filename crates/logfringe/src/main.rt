@@ -13,7 +13,7 @@ ghost use lib.ListN.{length, getD, take};
 ghost use Rattle.records.specs.Layout.{imageOf};
 ghost use Rattle.inspection.specs.Outcome.{Leaves};
 ghost use Rattle.commands.specs.Pieces.{part, endingImage, endingKept};
-ghost use Rattle.commands.specs.Feeding.{Passed};
+ghost use Rattle.commands.specs.Feeding.{PieceLeaves};
 
 // Where a piece ends: the first byte of the line that has begun, whether it is too long already, and whether every answer was written.
 struct Answered {
@@ -34,7 +34,7 @@ fn read_part(buf: &mut [u8]) -> usize
 fn answer_piece(buf: &[u8], end: usize, long: bool, img: &mut [u8], out: &mut [u8]) -> Answered
     requires { ⌜ (end ≤ length (now buf)) × (end ≤ 65536) × (16911 ≤ length (now out)) ⌝ }
     ensures within { λ r. ⌜ r .from ≤ end ⌝ }
-    ensures image { λ r. ⌜ Passed long (part 0 (r .from) (now (buf .entry))) (now (img .entry)) (now (img .exit)) (r .long) ⌝ }
+    ensures image { λ r. ⌜ PieceLeaves long (part 0 (r .from) (now (buf .entry))) (now (img .entry)) (now (img .exit)) (r .long) ⌝ }
     ensures left { λ r. ⌜ (r .written ≡ true → (k : ℕ) → r .from ≤ k → k < end → getD (now (buf .entry)) k 0 ≡ 10 → ⊥) ⌝ }
 {
     let mut from: usize = 0;

@@ -6,12 +6,12 @@ use mathlib.Core.Bool.{false≢true}
 use native.Mathlib.Omega.{arith}
 use lib.ListN.{length}
 use Rattle.commands.specs.Pieces.{part, part-none, part-append}
-use Rattle.commands.specs.Feeding.{Passed, passed-none, passed-more, fed-moves}
+use Rattle.commands.specs.Feeding.{PieceLeaves, piece-none, piece-more, fed-moves}
 use Rattle.logfringe.proofs.answer_piece.Statement.{statement}
 use Rattle.logfringe.proofs.answer_piece.Tie as tie
 
 abbrev Inv-loop : tie.InvT-loop
-Inv-loop buf end long img₀ out₀ from₀ over₀ turns₀ img out from over turns = (from ≤ end) × (length out ≡ length out₀) × (length img ≡ length img₀) × (end + 1 ≤ from + turns) × Passed long (part 0 from buf) img₀ img over
+Inv-loop buf end long img₀ out₀ from₀ over₀ turns₀ img out from over turns = (from ≤ end) × (length out ≡ length out₀) × (length img ≡ length img₀) × (end + 1 ≤ from + turns) × PieceLeaves long (part 0 from buf) img₀ img over
 
 abbrev μ-loop : tie.MeasureT-loop
 μ-loop buf end long img₀ out₀ from₀ over₀ turns₀ img out from over turns = turns
@@ -20,7 +20,7 @@ add-turns : tie.Need-add-turns Inv-loop μ-loop
 add-turns c = search needs
 
 loop-holds : tie.Need-loop-holds Inv-loop μ-loop
-loop-holds c = (omega arith, refl, refl, omega arith, passed-none (part 0 0 (c .before .before .before .args .buf .now)) (part-none 0 (c .before .before .before .args .buf .now)))
+loop-holds c = (omega arith, refl, refl, omega arith, piece-none (part 0 0 (c .before .before .before .args .buf .now)) (part-none 0 (c .before .before .before .args .buf .now)))
 
 answer-lines-requires : tie.Need-answer-lines-requires Inv-loop μ-loop
 answer-lines-requires c κs = search needs
@@ -49,7 +49,7 @@ returns c =
     let from = c .before .before .before .before .before .before .before .before .before .before .before .before .loop .from in
     let stop = c .before .before .before .before .before .before .before .before .answer-lines .result .from in
     let lines = c .before .before .before .before .before .before .before .before .answer-lines .ensures .1 .0 in
-    let passed = passed-more (part 0 stop buf) (part-append 0 from stop buf (omega arith) (omega arith)) (c .before .before .before .before .before .before .before .before .before .before .before .before .loop .inv .4) lines in
+    let passed = piece-more (part 0 stop buf) (part-append 0 from stop buf (omega arith) (omega arith)) (c .before .before .before .before .before .before .before .before .before .before .before .before .loop .inv .4) lines in
     (omega arith, (passed, λ e. absurd (false≢true e)))
 
 sub-if2 : tie.Need-sub-if2 Inv-loop μ-loop
@@ -67,7 +67,7 @@ loop-again c =
     let from = c .before .before .before .before .before .before .before .before .before .before .before .before .before .loop .from in
     let stop = c .before .before .before .before .before .before .before .before .before .answer-lines .result .from in
     let lines = c .before .before .before .before .before .before .before .before .before .answer-lines .ensures .1 .0 in
-    let passed = passed-more (part 0 stop buf) (part-append 0 from stop buf (omega arith) (omega arith)) (c .before .before .before .before .before .before .before .before .before .before .before .before .before .loop .inv .4) lines in
+    let passed = piece-more (part 0 stop buf) (part-append 0 from stop buf (omega arith) (omega arith)) (c .before .before .before .before .before .before .before .before .before .before .before .before .before .loop .inv .4) lines in
     let on : from < stop = fed-moves buf from stop (omega arith) (omega arith) lines in
     (omega arith, omega arith, omega arith, omega arith, passed)
 
@@ -92,7 +92,7 @@ returns-3 c =
     let from = c .before .before .before .before .before .before .before .before .before .before .before .before .before .loop .from in
     let stop = c .before .before .before .before .before .before .before .before .before .answer-lines .result .from in
     let lines = c .before .before .before .before .before .before .before .before .before .answer-lines .ensures .1 .0 in
-    let passed = passed-more (part 0 stop buf) (part-append 0 from stop buf (omega arith) (omega arith)) (c .before .before .before .before .before .before .before .before .before .before .before .before .before .loop .inv .4) lines in
+    let passed = piece-more (part 0 stop buf) (part-append 0 from stop buf (omega arith) (omega arith)) (c .before .before .before .before .before .before .before .before .before .before .before .before .before .loop .inv .4) lines in
     (omega arith, (passed, λ e. c .before .before .before .before .before .before .before .before .before .answer-lines .ensures .1 .1 .1 (omega arith)))
 
 pub answer-piece-spec : {M : Type 1} → statement M

@@ -7,7 +7,7 @@ use native.Mathlib.Omega.{arith}
 use lib.ListN.{length, getD}
 use lib.Dec.{eqb, leb}
 use borrow.Author.Tests.{leb-true, leb-false}
-use Rattle.words.specs.Words.{words, words-at, words-past, Bytes}
+use Rattle.words.specs.Words.{words, words-length, words-at, words-past, Bytes}
 use Rattle.records.specs.declared.Done.the-variants as done
 use Rattle.records.specs.Layout as layout
 use Rattle.inspection.specs.Room.{Shaped}
@@ -38,11 +38,11 @@ lent-small bytes b = go (eqb (length bytes % 4) 0)
     go true = words-small bytes b
     go false = λ k. omega arith
 
--- On every buffer that the full check accepts, each call answers as one ascending list does, and leaves an accepted image.
-pub lent-answers : (m n : ℕ) (bytes scratch : List ℕ) → Bytes bytes → checkOf m n (layout.imageOf bytes) scratch ≡ done.Yes
+-- On every buffer that the full check accepts, with whatever bytes for its scratch, each call answers as one ascending list does, and leaves an accepted image.
+pub lent-answers : (m n : ℕ) (bytes scratch : List ℕ) → Bytes bytes → checkOf m n (layout.imageOf bytes) (words scratch) ≡ done.Yes
     → (es : Entries) × Rising es × ((c : Call) → Fitting c → AsTheList m n (layout.imageOf bytes) c es)
-lent-answers m n bytes scratch b e = answers-as-one-list m n (layout.imageOf bytes) scratch (lent-small bytes b) e
+lent-answers m n bytes scratch b e = answers-as-one-list m n (layout.imageOf bytes) (words scratch) (lent-small bytes b) e
 
--- The check accepts exactly the buffers whose words meet the rules.
-pub lent-exact : (m n : ℕ) (bytes scratch : List ℕ) → Bytes bytes → Shaped m n (length (layout.imageOf bytes)) → m ≤ length scratch → Exact m n (layout.imageOf bytes) scratch
-lent-exact m n bytes scratch b shape l = check-is-exact m n (layout.imageOf bytes) scratch (lent-small bytes b) shape l
+-- The check accepts exactly the buffers whose words meet the rules, where it is lent four bytes of scratch for each of M values.
+pub lent-exact : (m n : ℕ) (bytes scratch : List ℕ) → Bytes bytes → Shaped m n (length (layout.imageOf bytes)) → 4 * m ≤ length scratch → Exact m n (layout.imageOf bytes) (words scratch)
+lent-exact m n bytes scratch b shape l = check-is-exact m n (layout.imageOf bytes) (words scratch) (lent-small bytes b) shape (omega (arith, words-length scratch))
