@@ -1,5 +1,5 @@
 -- A command on an accepted image is answered, as bytes, what the list is told to answer, and leaves an accepted image with the list's next state.
-use mathlib.Core.Path.{_≡_, refl, sym, ap, subst, _∙_}
+use mathlib.Core.Path.{_≡_, refl, sym, ap, _∙_}
 use mathlib.Core.List.{List, [], _∷_, _++_, append-assoc}
 use mathlib.Core.Bool.{Bool, true, false, cond}
 use mathlib.Core.Option.{Option, none, some}
@@ -11,17 +11,10 @@ use borrow.Author.Tests.{eq-eqb, ne-eqb}
 use Rattle.keys.specs.declared.Key.{Key}
 use Rattle.keys.specs.Number.{Fits}
 use Rattle.records.specs.declared.Value.{Value}
-use Rattle.records.specs.declared.Place.{Place}
-use Rattle.records.specs.declared.Place.the-variants as place
-use Rattle.records.specs.declared.Done.{Done}
-use Rattle.records.specs.declared.Got.{Got}
-use Rattle.records.specs.declared.Entry.{Entry}
 use Rattle.records.specs.Numbers.{refusalNumber, placeIndex}
 use Rattle.lookup.specs.Get.{addrOf}
 use Rattle.insert.specs.Steps.{insertOf, insertImage}
 use Rattle.listing.specs.declared.Position.{Position}
-use Rattle.listing.specs.Position.{madeOf}
-use Rattle.listing.specs.Step.{stepOf}
 use Rattle.texts.specs.declared.Command.{Command}
 use Rattle.texts.specs.declared.Command.the-variants as command
 use Rattle.texts.specs.Texts.{fullText, noneText, setText, entryText, endText, refusalText}

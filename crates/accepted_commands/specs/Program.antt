@@ -5,32 +5,25 @@ use mathlib.Core.List.{List, [], _∷_, _++_, map}
 use mathlib.Core.Logic.{_≢_, _↔_}
 use mathlib.Core.Bool.{Bool, true, false, cond}
 use mathlib.Core.Option.{Option, none, some}
-use Prim.Native.Nat.{ℕ, zero, suc, _+_, _≤_, _<_}
+use Prim.Native.Nat.{ℕ, _+_, _≤_}
 use native.Mathlib.Omega.{arith}
 use lib.ListN.{length, getD, length-append}
-use lib.Dec.{eqb}
 use Rattle.keys.specs.declared.Key.{Key}
-use Rattle.keys.specs.Number.{Fits}
 use Rattle.records.specs.declared.Value.{Value}
-use Rattle.records.specs.declared.Place.{Place}
-use Rattle.records.specs.declared.Place.the-variants as place
 use Rattle.records.specs.Numbers.{placeIndex}
 use Rattle.records.specs.Layout.{imageOf}
 use Rattle.records.specs.Records.{nodeOf, leafNode}
-use Rattle.lookup.specs.Get.{addrOf}
 use Rattle.lookup.specs.Start.{startImage}
-use Rattle.insert.specs.Steps.{insertImage}
 use Rattle.texts.specs.declared.Command.{Command}
 use Rattle.texts.specs.declared.Command.the-variants as command
-use Rattle.texts.specs.Digits.{digits, digits-length}
+use Rattle.texts.specs.Digits.{digits-length}
 use Rattle.texts.specs.Lines.{commandOf}
-use Rattle.texts.specs.Texts.{newline, badText, fullText, noneText, setText, pairText, valueText, entryText, endText}
-use Rattle.texts.specs.Fitting.{FitsWords, FitsCommand, asked-fits}
+use Rattle.texts.specs.Texts.{badText, fullText, noneText, setText, pairText, valueText, entryText, endText}
+use Rattle.texts.specs.Fitting.{FitsCommand, asked-fits}
 use Rattle.lists.specs.Lists.{All}
 use Rattle.lists.specs.Entries.{find, held, listEnd}
 use Rattle.lists.specs.Answers.{Answer}
-use Rattle.lists.specs.Machine.{FitsValue, start, Entries, full, blank, holding}
-use Rattle.accepted.specs.Accepted.{Accepted}
+use Rattle.lists.specs.Machine.{start, Entries, full, blank, holding}
 use Rattle.accepted_lookup.specs.Answers.{listed}
 use Rattle.accepted_insert.specs.Call.{insert-agrees}
 use Rattle.histories.specs.Agrees.{Is, agrees}

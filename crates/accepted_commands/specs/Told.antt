@@ -5,7 +5,7 @@
 -- it. A list has no node index: the one that `ok INDEX` names comes beside the command, and has its own law (`indexOf`, Lines).
 use mathlib.Core.Path.{_≡_, refl}
 use mathlib.Core.List.{List, [], _∷_, _++_, map}
-use mathlib.Core.Bool.{Bool, true, false, cond}
+use mathlib.Core.Bool.{true, false, cond}
 use mathlib.Core.Option.{Option, none, some}
 use Prim.Native.Nat.{ℕ}
 use lib.ListN.{length, replicate}

@@ -1,5 +1,5 @@
 -- The board in bytes: once the full check has answered 0, lookups on the same image answer 0 or 4, as long as nobody changes it, and they are those of one ascending list.
-use mathlib.Core.Path.{_≡_, refl, sym, ap, _∙_}
+use mathlib.Core.Path.{_≡_, refl, ap, _∙_}
 use mathlib.Core.List.{List, _++_}
 use mathlib.Core.Logic.{_⊎_, inl, inr}
 use mathlib.Core.Option.{Option, none, some}
@@ -15,12 +15,10 @@ use Rattle.records.specs.declared.Done.the-variants as done
 use Rattle.records.specs.declared.Got.{Got}
 use Rattle.records.specs.Layout.{imageOf}
 use Rattle.records.specs.Numbers.{refusalNumber, doneNumber, gotNumber}
-use Rattle.lookup.specs.Get.{getOf}
 use Rattle.full_check.specs.Check.{checkOf}
 use Rattle.lists.specs.Entries.{Rising, find}
 use Rattle.lists.specs.Answers.{gotFrom}
 use Rattle.lists.specs.Machine.{Entries}
-use Rattle.accepted.specs.Accepted.{Accepted}
 use Rattle.accepted_lookup.specs.Answers.{listed, get-agrees}
 use Rattle.accepted_check.specs.Exact.{check-sound}
 use Rattle.histories.specs.Shapes.{ascends}

@@ -25,7 +25,6 @@ use Rattle.lent.specs.Answers.{lent-small}
 use Rattle.histories.specs.Listings.{stateThen, leftsThen, Promised}
 use Rattle.lent.specs.Listings.{MoveRun, MoveRuns, movesOf, bufferThen, positionsLast, lent-watched}
 use Rattle.holding.specs.declared.Listing.{Listing}
-use Rattle.holding.specs.declared.Ends.{Ends}
 use Rattle.holding.specs.Held.{begun, heldStep, placed, movedOn, bothOf}
 
 -- what `next` and `next_back` answer one after the other, one for each side asked; true is the back
