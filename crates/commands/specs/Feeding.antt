@@ -15,7 +15,7 @@ use Rattle.records.specs.Layout.{imageOf}
 use Rattle.inspection.specs.Outcome.{Leaves, left-alone}
 use Rattle.texts.specs.Put.{Written, then, nothing, reads}
 use Rattle.commands.specs.Session.{byteLine, fedText, fedImage, fedLine, fedKept, either, inputText, inputImage, inputKept, fed-text-append, fed-image-append, fed-line-append, fed-kept-append, fed-kept-one}
-use Rattle.commands.specs.Pieces.{Before, someLine, NoEnd, Fed, Held, part, part-append, part-front, no-end-part, fed-text-on, fed-image-on, fed-line-on, fed-kept-on, leaves-as, leaves-then, keptOf, keptBuffer, keep-holds, held-front, endingText, endingImage, endingKept, held-ending}
+use Rattle.commands.specs.Pieces.{Before, someLine, NoEnd, PieceLeaves, Fed, Held, part, part-append, part-front, no-end-part, fed-text-on, fed-image-on, fed-line-on, fed-kept-on, leaves-as, leaves-then, keptOf, keptBuffer, keep-holds, held-front, endingText, endingImage, endingKept, held-ending}
 
 -- ---- a line that has begun has no LF
 
@@ -159,7 +159,7 @@ module _ {bytes before img₁ out out₁ buf : List ℕ} {have at : ℕ} {long :
             (ap (either (fedKept 256 512 (imageOf before) [] bytes)) (ap (λ (u : List ℕ). fedKept 256 512 u (hold .first) read) is ∙ a .kept)
             ∙ sym (fed-kept-append 256 512 (imageOf before) [] bytes piece))
             (ap (λ (u : List ℕ). fedImage 256 512 u (hold .first) read) is ∙ a .image ∙ sym (fed-image-append 256 512 (imageOf before) [] bytes piece))
-            (leaves-then (x .image) (y .image (hold .first) (hold .before))),
+            (leaves-then (x .image) (y .leaves .image (hold .first) (hold .before))),
       )
 
   -- a whole piece: `wide` is the buffer with the piece behind what is held, and no LF is left in it
@@ -177,7 +177,7 @@ module _ {bytes before img₁ out out₁ buf : List ℕ} {have at : ℕ} {long :
       record {
         held =
             subst (λ (l : List ℕ). Held (keptBuffer long₂ j end wide) (keptOf long₂ j end .have) (keptOf long₂ j end .long) l) line
-            (keep-holds long₂ j end wide h k (fedLine (hold .first) (part 0 j wide)) (y .line (hold .first) (hold .before)));
+            (keep-holds long₂ j end wide h k (fedLine (hold .first) (part 0 j wide)) (y .leaves .line (hold .first) (hold .before)));
         text = said .0;
         image = said .1;
       }
@@ -210,20 +210,11 @@ module _ {bytes before img₁ out out₁ buf : List ℕ} {have at : ℕ} {long :
             (leaves-as (ap (λ (u : List ℕ). endingKept 256 512 long u (take have buf)) is ∙ said .2) (ap (λ (u : List ℕ). endingImage 256 512 long u (take have buf)) is ∙ said .1) l),
       )
 
--- ---- where the answers are taken away in between: the image, and the line that has begun
+-- ---- one after the other, where the answers are taken away in between
 
-pub record PieceLeaves (long : Bool) (bytes before after : List ℕ) (long′ : Bool) : Type 0 where
-  pub image : (line : List ℕ) → Before long line
-      → Leaves before after (fedKept 256 512 (imageOf before) line bytes) (fedImage 256 512 (imageOf before) line bytes)
-  pub line : (line : List ℕ) → Before long line → Before long′ (fedLine line bytes)
-
-pub piece-none : {long : Bool} {img : List ℕ} (bytes : List ℕ) → bytes ≡ [] → PieceLeaves long bytes img img long
-unfolding fedImage fedKept fedLine
-piece-none {long} {img} bytes e = rw e (record { image = λ line h. left-alone refl; line = λ line h. h })
-
-pub piece-more : {long over over₂ : Bool} {s t img₀ img₁ img₂ out out′ : List ℕ} {at behind : ℕ} (u : List ℕ) → s ++ t ≡ u
-    → PieceLeaves long s img₀ img₁ over → Fed over t img₁ img₂ out out′ at behind over₂ → PieceLeaves long u img₀ img₂ over₂
-piece-more {long} {over} {over₂} {s} {t} {img₀} {img₁} {img₂} {out} {out′} {at} {behind} u e x y =
+pub piece-more : {long over over₂ : Bool} {s t img₀ img₁ img₂ : List ℕ} (u : List ℕ) → s ++ t ≡ u
+    → PieceLeaves long s img₀ img₁ over → PieceLeaves over t img₁ img₂ over₂ → PieceLeaves long u img₀ img₂ over₂
+piece-more {long} {over} {over₂} {s} {t} {img₀} {img₁} {img₂} u e x y =
     subst (λ (l : List ℕ). PieceLeaves long l img₀ img₂ over₂) e
     (record {
       image = λ line h.

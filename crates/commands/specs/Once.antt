@@ -149,7 +149,7 @@ answered-once {buf} {from} {end} {long} {img} {out} {at} {r} {s} {a} {b} {o} {p}
     let whole : fedKept 256 512 (imageOf img) line read ≡ 0 → length img % 4 ≡ 0 =
     λ z. shaped-whole 256 512 img (fed-shaped 256 512 (imageOf img) line read z) in (
       λ ι. record { from = sym here ι; at = place ι; long = mark ι },
-      one-outcome whole (x .bytes) (y .bytes) (x .size) (y .size) (x .lines .image line begun) (lines .image line begun),
+      one-outcome whole (x .bytes) (y .bytes) (x .size) (y .size) (x .lines .leaves .image line begun) (lines .leaves .image line begun),
       x .lines .answer line begun .bytes ∙ sym (lines .answer line begun .bytes),
     )
 

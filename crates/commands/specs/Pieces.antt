@@ -219,36 +219,30 @@ module _ (m n : ℕ) (ws line bytes : List ℕ) (on : NoEnd bytes) where
 
 -- ---- what answering a part of the buffer leaves: the bytes of the part are fed
 
-pub record Fed (long : Bool) (bytes before after out out′ : List ℕ) (at behind : ℕ) (long′ : Bool) : Type 0 where
-  pub answer : (line : List ℕ) → Before long line → Written out out′ at behind (fedText 256 512 (imageOf before) line bytes)
+-- what bytes leave of the image, and of the line that has begun
+pub record PieceLeaves (long : Bool) (bytes before after : List ℕ) (long′ : Bool) : Type 0 where
   pub image : (line : List ℕ) → Before long line
       → Leaves before after (fedKept 256 512 (imageOf before) line bytes) (fedImage 256 512 (imageOf before) line bytes)
   pub line : (line : List ℕ) → Before long line → Before long′ (fedLine line bytes)
 
+-- and what they are answered
+pub record Fed (long : Bool) (bytes before after out out′ : List ℕ) (at behind : ℕ) (long′ : Bool) : Type 0 where
+  pub answer : (line : List ℕ) → Before long line → Written out out′ at behind (fedText 256 512 (imageOf before) line bytes)
+  pub leaves : PieceLeaves long bytes before after long′
+
+pub piece-none : {long : Bool} {img : List ℕ} (bytes : List ℕ) → bytes ≡ [] → PieceLeaves long bytes img img long
+unfolding fedImage fedKept fedLine
+piece-none {long} {img} bytes e = rw e (record { image = λ line h. left-alone refl; line = λ line h. h })
+
 pub fed-none : {long : Bool} {img out : List ℕ} {at : ℕ} (bytes : List ℕ) → bytes ≡ [] → Fed long bytes img img out out at at long
-unfolding fedText fedImage fedLine fedKept
-fed-none {long} {img} {out} {at} bytes e =
-    rw e
-    (record {
-      answer = λ line h. nothing;
-      image = λ line h. left-alone refl;
-      line = λ line h. h;
-    })
+unfolding fedText
+fed-none {long} {img} {out} {at} bytes e = record { answer = λ line h. rw e nothing; leaves = piece-none bytes e }
 
 -- and a line more
-pub fed-more : {long over : Bool} {s t img₀ img₁ img₂ out₀ out₁ out₂ : List ℕ} {at i j : ℕ} (u : List ℕ) → u ≡ s ++ (t ++ (10 ∷ [])) → NoEnd t
-    → Fed long s img₀ img₁ out₀ out₁ at i over → Ended over t img₁ img₂ out₁ out₂ i j → Fed long u img₀ img₂ out₀ out₂ at j false
-fed-more {long} {over} {s} {t} {img₀} {img₁} {img₂} {out₀} {out₁} {out₂} {at} {i} {j} u e on x y =
-    rw e
-    (record {
-      answer = λ line h.
-          let g = fedLine line s in
-          reads
-          (ap (λ (l : List ℕ). fedText 256 512 (imageOf img₀) line s ++ l)
-          (ap (λ (ws : List ℕ). answerOf 256 512 ws (commandOf (g ++ t))) (x .image line h .words)
-          ∙ sym (line-text 256 512 (fedImage 256 512 (imageOf img₀) line s) g t on))
-          ∙ sym (fed-text-append 256 512 (imageOf img₀) line s (t ++ (10 ∷ []))))
-          (then (x .answer line h) (y .answer g (x .line line h)));
+piece-line : {long over : Bool} {s t img₀ img₁ img₂ out₁ out₂ : List ℕ} {i j : ℕ} → NoEnd t
+    → PieceLeaves long s img₀ img₁ over → Ended over t img₁ img₂ out₁ out₂ i j → PieceLeaves long (s ++ (t ++ (10 ∷ []))) img₀ img₂ false
+piece-line {long} {over} {s} {t} {img₀} {img₁} {img₂} {out₁} {out₂} {i} {j} on x y =
+    record {
       image = λ line h.
           let g = fedLine line s in
           let ws = fedImage 256 512 (imageOf img₀) line s in
@@ -259,6 +253,22 @@ fed-more {long} {over} {s} {t} {img₀} {img₁} {img₂} {out₀} {out₁} {out
           (leaves-then (x .image line h)
           (leaves-as (sym (line-kept 256 512 ws g t on)) (sym (line-image 256 512 ws g t on)) (leaves-alone more)));
       line = λ line h. fed-line-append line s (t ++ (10 ∷ [])) ∙ line-line 256 512 [] (fedLine line s) t on;
+    }
+
+pub fed-more : {long over : Bool} {s t img₀ img₁ img₂ out₀ out₁ out₂ : List ℕ} {at i j : ℕ} (u : List ℕ) → u ≡ s ++ (t ++ (10 ∷ [])) → NoEnd t
+    → Fed long s img₀ img₁ out₀ out₁ at i over → Ended over t img₁ img₂ out₁ out₂ i j → Fed long u img₀ img₂ out₀ out₂ at j false
+fed-more {long} {over} {s} {t} {img₀} {img₁} {img₂} {out₀} {out₁} {out₂} {at} {i} {j} u e on x y =
+    rw e
+    (record {
+      answer = λ line h.
+          let g = fedLine line s in
+          reads
+          (ap (λ (l : List ℕ). fedText 256 512 (imageOf img₀) line s ++ l)
+          (ap (λ (ws : List ℕ). answerOf 256 512 ws (commandOf (g ++ t))) (x .leaves .image line h .words)
+          ∙ sym (line-text 256 512 (fedImage 256 512 (imageOf img₀) line s) g t on))
+          ∙ sym (fed-text-append 256 512 (imageOf img₀) line s (t ++ (10 ∷ []))))
+          (then (x .answer line h) (y .answer g (x .leaves .line line h)));
+      leaves = piece-line on (x .leaves) y;
     })
 
 -- ---- where answering stops

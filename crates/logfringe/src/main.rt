@@ -12,8 +12,7 @@ ghost use Prim.Native.Nat.{ℕ, _+_, _<_, _≤_};
 ghost use lib.ListN.{length, getD, take};
 ghost use Rattle.records.specs.Layout.{imageOf};
 ghost use Rattle.inspection.specs.Outcome.{Leaves};
-ghost use Rattle.commands.specs.Pieces.{part, endingImage, endingKept};
-ghost use Rattle.commands.specs.Feeding.{PieceLeaves};
+ghost use Rattle.commands.specs.Pieces.{PieceLeaves, part, endingImage, endingKept};
 
 // Where a piece ends: the first byte of the line that has begun, whether it is too long already, and whether every answer was written.
 struct Answered {

@@ -5,8 +5,8 @@ use mathlib.Core.Path.{_≡_, refl}
 use mathlib.Core.Bool.{false≢true}
 use native.Mathlib.Omega.{arith}
 use lib.ListN.{length}
-use Rattle.commands.specs.Pieces.{part, part-none, part-append}
-use Rattle.commands.specs.Feeding.{PieceLeaves, piece-none, piece-more, fed-moves}
+use Rattle.commands.specs.Pieces.{part, part-none, part-append, PieceLeaves, piece-none}
+use Rattle.commands.specs.Feeding.{piece-more, fed-moves}
 use Rattle.logfringe.proofs.answer_piece.Statement.{statement}
 use Rattle.logfringe.proofs.answer_piece.Tie as tie
 
@@ -49,7 +49,7 @@ returns c =
     let from = c .before .before .before .before .before .before .before .before .before .before .before .before .loop .from in
     let stop = c .before .before .before .before .before .before .before .before .answer-lines .result .from in
     let lines = c .before .before .before .before .before .before .before .before .answer-lines .ensures .1 .0 in
-    let passed = piece-more (part 0 stop buf) (part-append 0 from stop buf (omega arith) (omega arith)) (c .before .before .before .before .before .before .before .before .before .before .before .before .loop .inv .4) lines in
+    let passed = piece-more (part 0 stop buf) (part-append 0 from stop buf (omega arith) (omega arith)) (c .before .before .before .before .before .before .before .before .before .before .before .before .loop .inv .4) (lines .leaves) in
     (omega arith, (passed, λ e. absurd (false≢true e)))
 
 sub-if2 : tie.Need-sub-if2 Inv-loop μ-loop
@@ -67,7 +67,7 @@ loop-again c =
     let from = c .before .before .before .before .before .before .before .before .before .before .before .before .before .loop .from in
     let stop = c .before .before .before .before .before .before .before .before .before .answer-lines .result .from in
     let lines = c .before .before .before .before .before .before .before .before .before .answer-lines .ensures .1 .0 in
-    let passed = piece-more (part 0 stop buf) (part-append 0 from stop buf (omega arith) (omega arith)) (c .before .before .before .before .before .before .before .before .before .before .before .before .before .loop .inv .4) lines in
+    let passed = piece-more (part 0 stop buf) (part-append 0 from stop buf (omega arith) (omega arith)) (c .before .before .before .before .before .before .before .before .before .before .before .before .before .loop .inv .4) (lines .leaves) in
     let on : from < stop = fed-moves buf from stop (omega arith) (omega arith) lines in
     (omega arith, omega arith, omega arith, omega arith, passed)
 
@@ -92,7 +92,7 @@ returns-3 c =
     let from = c .before .before .before .before .before .before .before .before .before .before .before .before .before .loop .from in
     let stop = c .before .before .before .before .before .before .before .before .before .answer-lines .result .from in
     let lines = c .before .before .before .before .before .before .before .before .before .answer-lines .ensures .1 .0 in
-    let passed = piece-more (part 0 stop buf) (part-append 0 from stop buf (omega arith) (omega arith)) (c .before .before .before .before .before .before .before .before .before .before .before .before .before .loop .inv .4) lines in
+    let passed = piece-more (part 0 stop buf) (part-append 0 from stop buf (omega arith) (omega arith)) (c .before .before .before .before .before .before .before .before .before .before .before .before .before .loop .inv .4) (lines .leaves) in
     (omega arith, (passed, λ e. c .before .before .before .before .before .before .before .before .before .answer-lines .ensures .1 .1 .1 (omega arith)))
 
 pub answer-piece-spec : {M : Type 1} → statement M
