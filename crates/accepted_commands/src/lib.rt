@@ -1,1 +1,2 @@
 // No code: the command program is the list. Everything is in specs/.
+#![tactic(auto)]

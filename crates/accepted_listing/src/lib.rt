@@ -1,1 +1,2 @@
 // No code: a listing on an accepted image. Everything is in specs/.
+#![tactic(auto)]

@@ -1,1 +1,2 @@
 // No code: start and the value write on blank and accepted images. Everything is in specs/.
+#![tactic(auto)]

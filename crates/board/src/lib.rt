@@ -1,6 +1,8 @@
 // What C firmware calls: lookup and the full check, on an image in the firmware's own bytes.
 //
 // Nothing is copied, allocated or kept between calls. A key comes as its high and its low word; each answer is the number of docs/RULES.md, section R. The C side is include/logfringe.h.
+#![tactic(auto)]
+
 ghost use Rattle.std.specs.Prelude.{◌≡◌, ◌++◌, ◌+◌, ◌≤◌, length, drop};
 ghost use Rattle.records.specs.Layout.{image_of};
 ghost use Rattle.records.specs.Numbers.{done_number, got_number};

@@ -2,6 +2,8 @@
 //
 // A key comes as its high and its low word. An answer's number is returned, in the upper half of 64 bits where an index or a count stands in the lower half; a key and a value are written to `out` as words, the
 // low word of each 64-bit word first.
+#![tactic(auto)]
+
 pub mod list; // list.rt: listings
 
 use keys::Key;

@@ -10,7 +10,7 @@ use crate::run::line;
 use texts::print::put_bad;
 
 // Where answering stopped: the first byte of the line that has begun, the place behind the last answer, and whether the line that has begun is too long already.
-#[derive(Drop)]
+#[derive(Clone, Copy)]
 pub struct Turn {
     pub from: usize,
     pub at: usize,
@@ -18,7 +18,7 @@ pub struct Turn {
 }
 
 // What is kept of the line that has begun: so many bytes at the buffer's front, or the mark.
-#[derive(Drop)]
+#[derive(Clone, Copy)]
 pub struct Kept {
     pub have: usize,
     pub long: bool,

@@ -1,6 +1,8 @@
 // The descents from the root: by a key whose prefixes are compared, as lookup and insert go; and by a key's bits alone, as remove goes, and as the
 // smallest and the largest entry are reached by the bits of the smallest and the largest key. Each visited node is tested before it is relied on, and
 // each descent is a loop left by break with the node and the reason it stopped.
+#![tactic(auto)]
+
 ghost use Rattle.std.specs.Prelude.{◌≡◌, ◌+◌, ◌*◌, ◌<◌, ◌≤◌, length};
 ghost use Rattle.words.specs.Words.{words};
 ghost use Rattle.inspection.specs.Room.{Room};
@@ -14,7 +16,7 @@ use records::{Header, Node, NodeIndex};
 
 // Why a descent stopped, and where: at a leaf that fits; at a node where the key parts from the map, with the number of bits that they share; in an
 // empty map; at damage.
-#[derive(Drop)]
+#[derive(Clone, Copy)]
 pub enum Stop {
     Leaf(NodeIndex, Node),
     Parted(NodeIndex, Node, u64),
@@ -23,7 +25,7 @@ pub enum Stop {
 }
 
 // One node's answer: the child to go to and the least prefix length that it may have, or the end.
-#[derive(Drop)]
+#[derive(Clone, Copy)]
 pub enum Turn {
     Down(NodeIndex, u64),
     Halt(Stop),

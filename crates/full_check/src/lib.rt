@@ -2,6 +2,8 @@
 //
 // The image is only read. The caller lends a scratch of at least M words, in which the value records that leaves name are marked; afterwards
 // its first M words are zero, and what lies behind them is as it was.
+#![tactic(auto)]
+
 mod chains; // chains.rt: the free chains, and what was never used
 mod walk; // walk.rt: the tree
 

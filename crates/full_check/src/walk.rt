@@ -13,7 +13,7 @@ use keys::{Key, bit, leading_equal};
 use records::{Header, Node, NodeIndex};
 
 // What a walk answers: whether every node passed, and how many nodes are left to be reached.
-#[derive(Drop)]
+#[derive(Clone, Copy)]
 pub struct Walked {
     pub passed: bool,
     pub rest: u64,

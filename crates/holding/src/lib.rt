@@ -1,6 +1,8 @@
 // A listing that holds the image it lists: thin functions over a struct of the lent image, the numbers M and N, and the position.
 // The work is done by `listing::step`, on the image and the position; each function here takes the struct apart and calls it.
 // A function that takes, makes or has a local of the struct is proved by hand; whoever calls `first_and_last` is covered again.
+#![tactic(auto)]
+
 ghost use Rattle.std.specs.Prelude.{◌≡◌, true, false};
 ghost use Rattle.records.specs.Layout.{image_of};
 ghost use Rattle.listing.specs.Position.{made_of};
@@ -10,7 +12,7 @@ use listing::{Position, step};
 use records::Entry;
 
 // The lent image, the numbers M and N that it is read by, and where the listing stands.
-#[derive(Drop)]
+#[derive(Clone, Copy)]
 pub struct Listing<'a> {
     pub image: &'a [u8],
     pub m: u32,
@@ -70,7 +72,7 @@ pub fn moved<'a>(l: Listing<'a>, position: Position) -> Listing<'a>
 }
 
 // What a listing gives first at its front, and then at its back.
-#[derive(Drop)]
+#[derive(Clone, Copy)]
 pub struct Ends {
     pub first: Entry,
     pub last: Entry,

@@ -1,5 +1,7 @@
 // Insert: what is to be done is found out first, on the image as it was, and then done. A refused insert passes no
 // writer, so that every byte stays.
+#![tactic(auto)]
+
 mod tests; // tests.rt: what insert tests
 mod steps; // steps.rt: what it writes
 
@@ -17,7 +19,7 @@ use records::{Header, Node, NodeIndex, Place, Refusal, Value, ValueIndex};
 
 // What insert is going to do, found out before any write: a first leaf; the value of an equal leaf replaced; a node split,
 // of which the key shares so many bits; or nothing. The header that was read goes along.
-#[derive(Drop)]
+#[derive(Clone, Copy)]
 pub enum Plan {
     First(Header),
     Replace(NodeIndex, ValueIndex),

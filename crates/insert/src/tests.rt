@@ -25,7 +25,7 @@ use records::{Header, Node, NodeIndex, Refusal, ValueIndex};
 // ---- the records that it will take
 
 // The node at the head: whether it may be taken, and the node that is taken after it.
-#[derive(Drop)]
+#[derive(Clone, Copy)]
 struct Head {
     passes: bool,
     next: NodeIndex,

@@ -1,4 +1,6 @@
 // What is tested of an image before a call relies on it: the tests of each record, and the shape and header, which every call tests first.
+#![tactic(auto)]
+
 pub mod tests; // tests.rt: the tests of a record
 pub mod visit; // visit.rt: a visited node, its children, and a leaf's value record
 pub mod open; // open.rt: shape and header, which every call tests first
@@ -6,14 +8,14 @@ pub mod open; // open.rt: shape and header, which every call tests first
 use records::{Header, Node, Refusal, Value};
 
 // The header of an image that passes the shape's and the header's tests, or the refusal.
-#[derive(Drop)]
+#[derive(Clone, Copy)]
 pub enum Opened {
     Good(Header),
     Shut(Refusal),
 }
 
 // A visited node that passes, by its kind; or damage.
-#[derive(Drop)]
+#[derive(Clone, Copy)]
 pub enum Visited {
     Inner(Node),
     Leaf(Node),
@@ -21,7 +23,7 @@ pub enum Visited {
 }
 
 // What a leaf's value record holds, if it passes.
-#[derive(Drop)]
+#[derive(Clone, Copy)]
 pub enum Live {
     Holds(Value),
     Not,

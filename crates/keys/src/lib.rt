@@ -1,19 +1,21 @@
 // A key is two 64-bit words, high and low, and means the 128-bit number `number_of`: its bit 0 is the most significant.
 // The functions here compare two keys and read a bit. None has a `requires`, and each answers by a definition on the numbers.
+#![tactic(auto)]
+
 ghost use Rattle.std.specs.Prelude.{◌≡◌, ltb, eqb};
 ghost use Rattle.std.specs.Int.Count.{count_leading_zeros};
 ghost use Rattle.keys.specs.Common.{common, bit_of};
 ghost use Rattle.keys.specs.Ways.{way_to, way_of};
 ghost use Rattle.keys.specs.Number.{number_of};
 
-#[derive(Drop)]
+#[derive(Clone, Copy)]
 pub struct Key {
     pub high: u64,
     pub low: u64,
 }
 
 // Where a key goes at a prefix: to the side of its next bit, or it has another prefix.
-#[derive(Drop)]
+#[derive(Clone, Copy)]
 pub enum Way {
     Left,
     Right,

@@ -1,1 +1,2 @@
 // No code: the demands over the bytes that the calls are lent. Everything is in specs/.
+#![tactic(auto)]

@@ -1,6 +1,8 @@
 // Every call of the map once more, and the board's two, with key and value as words: what the contract of each one's own function says is what crate `lent` asks of a run (`Ran`, `MoveRan`) and of the board
 // (`Looked`, `Checked`). So whoever calls the functions of the map, in whatever order, has such a history, and nothing is left to be compared by eye. Nothing is added to a call, and nothing calls these
 // functions.
+#![tactic(auto)]
+
 ghost use Rattle.std.specs.Prelude.{true, false};
 ghost use Rattle.lists.specs.Answers.{done_is, got_is, place_is, entry_is, count_from};
 ghost use Rattle.lent.specs.Histories as lent;

@@ -1,4 +1,6 @@
 // Listing from both ends: a position that is made from an image and stepped at its front or its back, one entry a step.
+#![tactic(auto)]
+
 pub mod open; // open.rt: opening one node, and what a leaf comes to
 pub mod step; // step.rt: making a position, and a step at an end: popping and opening nodes until a leaf comes
 
@@ -7,14 +9,14 @@ use records::{Done, Entry, Header, NodeIndex, Refusal, ValueIndex};
 
 // One end of a listing: the nodes that are still to be opened, the next one last, and the value record that was given last (0 for none). Places at or above `count` are
 // what earlier steps left there.
-#[derive(Drop)]
+#[derive(Clone, Copy)]
 pub struct Stack {
     pub places: [NodeIndex; 129],
     pub count: u32,
     pub last: ValueIndex,
 }
 
-#[derive(Drop)]
+#[derive(Clone, Copy)]
 pub struct Position {
     pub front: Stack,
     pub back: Stack,
@@ -22,21 +24,21 @@ pub struct Position {
 }
 
 // The answer of making a position.
-#[derive(Drop)]
+#[derive(Clone, Copy)]
 pub struct Made {
     pub answer: Done,
     pub position: Position,
 }
 
 // The answer of a step: its entry, and the position afterwards.
-#[derive(Drop)]
+#[derive(Clone, Copy)]
 pub struct Stepped {
     pub entry: Entry,
     pub position: Position,
 }
 
 // One node's answer while a stack is opened: the child that waits, the child that is opened next and what it is; that it is the leaf; or damage.
-#[derive(Drop)]
+#[derive(Clone, Copy)]
 pub enum Opens {
     On(NodeIndex, NodeIndex, Visited),
     Came,
@@ -44,7 +46,7 @@ pub enum Opens {
 }
 
 // Whether a step may pop a node: the header, or why not.
-#[derive(Drop)]
+#[derive(Clone, Copy)]
 pub enum Admitted {
     Go(Header),
     No(Refusal),
@@ -52,7 +54,7 @@ pub enum Admitted {
 
 // Where a stack stands when its leaf has come, for the definitions: the leaf or damage, the places and the count as popped and opened so far, and
 // the leaf's index.
-#[derive(Drop)]
+#[derive(Clone, Copy)]
 pub struct Reached {
     pub came: Visited,
     pub places: [NodeIndex; 129],
@@ -61,7 +63,7 @@ pub struct Reached {
 }
 
 // What a leaf comes to: whether the stack moves, the mark, the value record that the end gave last, and the entry.
-#[derive(Drop)]
+#[derive(Clone, Copy)]
 pub struct Given {
     pub moves: bool,
     pub ended: bool,
@@ -70,7 +72,7 @@ pub struct Given {
 }
 
 // What a step makes of the near end: its stack, the mark, and the entry.
-#[derive(Drop)]
+#[derive(Clone, Copy)]
 pub struct Moved {
     pub near: Stack,
     pub ended: bool,

@@ -1,6 +1,8 @@
 // The command program: lines from standard input, their answers on standard output. It reads in large pieces, and writes the answers to what it has read before it waits for more.
 //
 // What a line asks and what it is answered is `commands`. A write that fails ends the program; a read that fails ends the input.
+#![tactic(auto)]
+
 ghost use Rattle.std.specs.Prelude.{◌≡◌, true, ℕ, ◌+◌, ◌<◌, ◌≤◌, length, get_or, take};
 ghost use Rattle.records.specs.Layout.{image_of};
 ghost use Rattle.inspection.specs.Outcome.{Leaves};
@@ -11,7 +13,7 @@ use lookup::start::start;
 use records::Done;
 
 // Where a piece ends: the first byte of the line that has begun, whether it is too long already, and whether every answer was written.
-#[derive(Drop)]
+#[derive(Clone, Copy)]
 struct Answered {
     from: usize,
     long: bool,

@@ -4,6 +4,8 @@
 // Index 0 is none, as in the Rust: its registers read 0 and nothing is stored to them. An index above the capacity, where the Rust
 // panics, is treated alike, so that no call needs a condition and none leaves its arena. An index here is a plain number; the map above
 // keeps those of nodes and of values apart.
+#![tactic(auto)]
+
 ghost use Rattle.std.specs.Prelude.{◌≡◌, ◌+◌, ◌*◌, ◌<◌, ◌≤◌, length};
 ghost use Rattle.words.specs.Words.{words};
 ghost use Rattle.node_allocator.specs.Layout.{node_at, value_at, values_at, header_at, record_at, capacity_of, width_of, register_of, inside};
@@ -13,14 +15,14 @@ ghost use Rattle.node_allocator.specs.Steps.{taken, add_counts, add_image, freed
 use std::num::{wrapping_add_u32, wrapping_add_u64};
 
 // The two arenas of an image: its nodes, and behind them its values.
-#[derive(Drop)]
+#[derive(Clone, Copy)]
 pub enum Arena {
     Nodes { nodes: u32 },
     Values { nodes: u32, values: u32 },
 }
 
 // The registers of a record, by the names that they have in a tree node. A value record uses register 0 alone, for the chain.
-#[derive(Drop)]
+#[derive(Clone, Copy)]
 pub enum Register {
     Left,
     Right,
@@ -29,7 +31,7 @@ pub enum Register {
 }
 
 // What an arena's header holds.
-#[derive(Drop)]
+#[derive(Clone, Copy)]
 pub struct Counts {
     pub size: u64,
     pub bump: u32,

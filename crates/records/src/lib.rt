@@ -1,5 +1,7 @@
 // The records of an image, as every call of the map reads and writes them: each as a whole. Nothing here follows a link, and nothing is tested;
 // that is `inspection`.
+#![tactic(auto)]
+
 pub mod read; // read.rt: the header, a node, a value record, and the words that are padding
 pub mod write; // write.rt: a node's data, a value record, the root
 
@@ -10,21 +12,21 @@ use keys::Key;
 use node_allocator::Counts;
 
 // The index of a node. 0 means none.
-#[derive(Drop)]
+#[derive(Clone, Copy)]
 pub struct NodeIndex(pub u32);
 
 // The index of a value record. 0 means none.
-#[derive(Drop)]
+#[derive(Clone, Copy)]
 pub struct ValueIndex(pub u32);
 
-#[derive(Drop)]
+#[derive(Clone, Copy)]
 pub struct Value {
     pub first: u64,
     pub second: u64,
 }
 
 // What the header says of the map. Words 0, 1 and 3 are padding and are read by themselves.
-#[derive(Drop)]
+#[derive(Clone, Copy)]
 pub struct Header {
     pub root: NodeIndex,
     pub nodes: Counts,
@@ -32,7 +34,7 @@ pub struct Header {
 }
 
 // A node's data: its first ten words. The last two are padding and are read by themselves.
-#[derive(Drop)]
+#[derive(Clone, Copy)]
 pub struct Node {
     pub left: NodeIndex,
     pub right: NodeIndex,
@@ -42,7 +44,7 @@ pub struct Node {
     pub prefix: u64,
 }
 
-#[derive(Drop)]
+#[derive(Clone, Copy)]
 pub struct ValueRecord {
     pub register0: u32,
     pub register1: u32,
@@ -52,7 +54,7 @@ pub struct ValueRecord {
 }
 
 // Why a call refuses. `refusal_number` in specs/Numbers.antt gives the number of each.
-#[derive(Drop)]
+#[derive(Clone, Copy)]
 pub enum Refusal {
     Shape,
     Damaged,
@@ -63,35 +65,35 @@ pub enum Refusal {
 }
 
 // The answer of start, contains and the value write.
-#[derive(Drop)]
+#[derive(Clone, Copy)]
 pub enum Done {
     Yes,
     Refused(Refusal),
 }
 
 // The answer of get and remove.
-#[derive(Drop)]
+#[derive(Clone, Copy)]
 pub enum Got {
     Found(Value),
     Refused(Refusal),
 }
 
 // The answer of insert and `get_addr`.
-#[derive(Drop)]
+#[derive(Clone, Copy)]
 pub enum Place {
     At(NodeIndex),
     Refused(Refusal),
 }
 
 // The answer of smallest and largest, and of a listing's step.
-#[derive(Drop)]
+#[derive(Clone, Copy)]
 pub enum Entry {
     Is(Key, Value),
     Refused(Refusal),
 }
 
 // The answer of length and capacity.
-#[derive(Drop)]
+#[derive(Clone, Copy)]
 pub enum Count {
     Is(u64),
     Refused(Refusal),

@@ -1,1 +1,2 @@
 // No code: what each call rewrites. Everything is in specs/.
+#![tactic(auto)]

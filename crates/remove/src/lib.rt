@@ -1,5 +1,7 @@
 // Remove: a key's leaf leaves the map, and its sibling moves into the node above. Everything is tested before the
 // first write, so that a refusal leaves every byte as it was.
+#![tactic(auto)]
+
 mod tests; // tests.rt: what remove tests, and so what it is going to do
 mod steps; // steps.rt: what it then writes
 
@@ -16,7 +18,7 @@ use records::{Got, Header, Node, NodeIndex, Refusal, Value};
 
 // What remove is going to do, found out before any write: the header, the leaf's index and record, and the value that
 // it held. A leaf below a node comes with that node's record and with its sibling's index and record.
-#[derive(Drop)]
+#[derive(Clone, Copy)]
 pub enum Plan {
     Lone(Header, NodeIndex, Node, Value),
     Cut(Header, NodeIndex, Node, Node, NodeIndex, Node, Value),

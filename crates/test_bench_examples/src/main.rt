@@ -1,4 +1,6 @@
 // The bench examples of the rules B that are run: the leading equal bits, the limits of M and N, images of other lengths, and the path of 129 nodes. The starred ones are proved: specs/Table.antt.
+#![tactic(auto)]
+
 use keys::{Key, leading_equal};
 use records::{Done, Place, Value, number};
 

@@ -1,5 +1,7 @@
 // The command program's lines, cut at every place: standard input is answered as one piece, and then again in pieces of each length from 1 to 200 bytes. It writes the answers to the whole,
 // and how many of the other runs answer the same bytes.
+#![tactic(auto)]
+
 ghost use Rattle.std.specs.Prelude.{◌≡◌, ℕ, ◌+◌, ◌<◌, ◌≤◌, true, false, [], length, take, replicate};
 ghost use Rattle.records.specs.Layout.{image_of};
 ghost use Rattle.inspection.specs.Outcome.{Leaves};
@@ -11,7 +13,7 @@ use commands::pieces::{answer_lines, finish, keep};
 use lookup::start::start;
 
 // The answers to a text: how many bytes they are, and whether the whole text is answered.
-#[derive(Drop)]
+#[derive(Clone, Copy)]
 struct Reply {
     at: usize,
     whole: bool,

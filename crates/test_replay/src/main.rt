@@ -2,10 +2,12 @@
 //
 // A record is 24 words, lowest byte first: the call's letter as a number, M, N, the answer's number, the key (high, low), the value (two), the answer's results (four 64-bit numbers), the checksum, and two words over.
 // `oracle/compare` has the recorder.
+#![tactic(auto)]
+
 use keys::Key;
 use records::{Count, Done, Entry, Got, Place, Value, number};
 
-#[derive(Drop)]
+#[derive(Clone, Copy)]
 struct Outcome {
     number: u32,
     first: u64,

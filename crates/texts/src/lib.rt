@@ -1,4 +1,6 @@
 // The text of the command program: what a line asks, and bytes and numbers put into an output buffer. Nothing here knows of an image.
+#![tactic(auto)]
+
 pub mod print; // print.rt: bytes and numbers into the output
 mod digits; // digits.rt: numbers out of a line
 pub mod parse; // parse.rt: what a line asks
@@ -7,7 +9,7 @@ use keys::Key;
 use records::Value;
 
 // What a line asks.
-#[derive(Drop)]
+#[derive(Clone, Copy)]
 pub enum Command {
     Insert(Key, Value),
     Remove(Key),
@@ -20,14 +22,14 @@ pub enum Command {
 }
 
 // Sixteen bytes of a line, read as hex digits.
-#[derive(Drop)]
+#[derive(Clone, Copy)]
 pub struct Word {
     pub ok: bool,
     pub value: u64,
 }
 
 // Thirty-two bytes of a line, read as hex digits, high or first word first.
-#[derive(Drop)]
+#[derive(Clone, Copy)]
 pub struct Field {
     pub ok: bool,
     pub first: u64,
@@ -35,14 +37,14 @@ pub struct Field {
 }
 
 // What stands behind the letter of a line with a key.
-#[derive(Drop)]
+#[derive(Clone, Copy)]
 pub enum OneField {
     Is(Key),
     Not,
 }
 
 // What stands behind the letter of a line with a key and a value.
-#[derive(Drop)]
+#[derive(Clone, Copy)]
 pub enum TwoFields {
     Are(Key, Value),
     Not,

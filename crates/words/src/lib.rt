@@ -3,6 +3,8 @@
 // Every contract but that of `put` speaks of the buffer's words, `words (now ..)`, and of nothing else; `put` is told a
 // byte's place and speaks of bytes. Past the last word a read gives 0 and a store does nothing, so that no caller carries a
 // bound; `put`, `four_zeros` and the functions whose names end in `_in` test no place and ask the caller to know that it lies inside.
+#![tactic(auto)]
+
 ghost use Rattle.std.specs.Prelude.{◌≡◌, ◌+◌, ◌*◌, ◌<◌, ◌≤◌, length, get_or, set, replicate};
 ghost use Rattle.words.specs.Words.{words, put_word};
 ghost use Rattle.words.specs.Wide.{wide_at, set_wide};

@@ -1,0 +1,13 @@
+-- `read::counts_in` meets its contract. Assumes nothing.
+use native.Mathlib.Omega.{arith}
+use Rattle.words.specs.Words.{words_length}
+use Rattle.records.proofs.read.counts_in.Goals as goal
+
+pub overflow_add-at : goal.overflow_add-at
+overflow_add-at c = omega (arith, words_length c.args.img.now)
+
+pub overflow_add-at-2 : goal.overflow_add-at-2
+overflow_add-at-2 c = omega (arith, words_length c.args.img.now)
+
+pub returns : goal.returns
+returns c = cc
