@@ -11,11 +11,19 @@ import os
 import re
 import sys
 
+sys.path.insert(0, os.path.dirname(os.path.realpath(__file__)))
+import rename
+
 DECL = re.compile(r"(?m)^(?:abbrev |pub |unfoldable )*([^\s(){}.;,:]+)(?: \{[^{}\n]*\})* :")
 PATH = re.compile(r"(?<![\w'\-.])(c|[A-Za-z_][\w']*)((?:\.[\w'\-·]+)+)(?![\w'])")
 
 
+# names of steps that tools/rename.py turned as if they were lemmas
+STEPS = {new: old for old, new in rename.OWN.items()}
+
+
 def norm(s):
+    s = STEPS.get(s, s)
     s = re.sub(r"(?<=[a-z0-9])[A-Z]", lambda m: "_" + m[0], s).lower()
     return re.sub(r"^overflow[-_]", "", s).replace("-", "_")
 
