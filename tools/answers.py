@@ -154,15 +154,13 @@ def turn_paths(fn, text, place, name):
     # aliases: let s = c.before.. in, with no field
     alias = {"c": place}
 
-    def one_let(m):
-        path = m[2].split(".")[1:]
-        at, new = fn.resolve(place, path, None)
-        if at:
-            alias[m[1]] = at
-            return ""
-        return m[0]
-
-    text = re.sub(r"let (\w+) = c((?:\.before)+) in\s*", one_let, text)
+    while True:
+        m = next((m for m in re.finditer(r"let (\w+) = (\w+)((?:\.before)+) in\s*", text) if m[2] in alias), None)
+        if not m:
+            break
+        at, new = fn.resolve(alias[m[2]], m[3].split(".")[1:], None)
+        alias[m[1]] = at
+        text = text[: m.start()] + text[m.end() :]
 
     def sub(m):
         if m[1] not in alias:

@@ -1,0 +1,29 @@
+-- `descent::leaf_from` meets its contract.
+use Prim.Native.Nat.{◌-◌}
+use mathlib.Core.Path.{refl, sym, ◌∙◌}
+use native.Mathlib.Omega.{arith}
+use borrow.Author.Rules.{rules}
+use Rattle.descent.specs.Descent.{bits_turn}
+use Rattle.descent.specs.Bits.{bits_turns}
+use Rattle.descent.specs.Laws.{rises, again, halts}
+use Rattle.descent.proofs.leaf_from.Goals as goal
+
+pub loop-next-init : goal.loop-next-init
+loop-next-init c = (search rules, (129, search rules, refl))
+
+pub loop-next-smaller : goal.loop-next-smaller
+loop-next-smaller c = omega (arith, rises (bits_turn c.args.key) (bits_turns c.args.key) _ _ _ _ _ _ _ (sym c.bits_turn.ensures ∙ c.in-Down.is))
+
+pub loop-next-preserved : goal.loop-next-preserved
+loop-next-preserved c =
+    let l = c.loop-next in
+    let e = sym c.bits_turn.ensures ∙ c.in-Down.is in (
+      (rises (bits_turn c.args.key) (bits_turns c.args.key) _ _ _ _ _ _ _ e).1,
+      again (bits_turn c.args.key) (bits_turns c.args.key) _ _ _ _ _ _ _ l.invariant.1.1 l.invariant.0 l.invariant.1.2 _ _ e,
+    )
+
+pub returns : goal.returns
+returns c =
+    let l = c.loop-next in
+    let e = sym c.bits_turn.ensures ∙ c.in-Halt.is in
+    halts (bits_turn c.args.key) (bits_turns c.args.key) _ _ _ _ _ _ _ l.invariant.1.1 l.invariant.0 l.invariant.1.2 _ e
