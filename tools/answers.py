@@ -202,9 +202,14 @@ def parts(text):
 
 def as_record(text, names):
     at = parts(text)
-    if not at or len(at[1]) < len(names):
+    if not at:
         return None
     head, items = at
+    while len(items) < len(names):
+        more = parts(items[-1]) if items[-1].startswith("(") else None
+        if not more or more[0].strip():
+            return None
+        items = items[:-1] + more[1]
     items = items[: len(names) - 1] + ([", ".join(items[len(names) - 1 :])] if len(items) == len(names) else ["(" + ", ".join(items[len(names) - 1 :]) + ")"])
     return head + "record { " + "; ".join(f"{n} = {i}" for n, i in zip(names, items)) + " }"
 

@@ -12,5 +12,5 @@ opened_check-answer-requires c = (c.clear.ensures ∙ ap unmarked c.requires.0, 
 pub returns : goal.returns
 returns c =
     let kept : length (words c.opened_check-answer.new.marks) ≡ c.args.m =
-    omega (arith, c.requires.0, words_length c.args.marks.now, words_length c.opened_check-answer.new.marks, c.opened_check-answer.auto.marks, c.clear.auto.0) in
+    omega (arith, c.requires.0, words_length c.args.marks.now, words_length c.opened_check-answer.new.marks, c.opened_check-answer.auto.marks, c.clear.auto.bytes) in
     record { answer = c.opened_check-answer.ensures; scratch = c.clear-2.ensures ∙ ap unmarked kept }
