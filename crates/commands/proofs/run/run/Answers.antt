@@ -30,7 +30,7 @@ returns-in-Largest c = record { room = omega arith; text = simp (c.in-Largest.is
 
 pub returns-in-All : goal.returns-in-All
 unfolding answer_of image_after kept_by
-returns-in-All c = record { room = omega arith; text = simp c.in-All.is c.put_all.ensures.1; image = left_alone (simp c.in-All.is) }
+returns-in-All c = record { room = omega arith; text = simp c.in-All.is c.put_all.ensures.text; image = left_alone (simp c.in-All.is) }
 
 pub returns-in-Bad : goal.returns-in-Bad
 unfolding answer_of image_after kept_by
