@@ -1,2 +1,0 @@
--- What several of the crate's proofs cite.
-pub mod Lent
