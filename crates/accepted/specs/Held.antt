@@ -1,5 +1,5 @@
 -- A tree that an image holds: every node of it passes its test, no node stands at two places, the words determine it, and its entries name used value records.
-use Rattle.std.specs.Prelude.{◌≡◌, refl, List, ◌⊎◌, true, not, ℕ, ◌+◌, ◌-◌, ◌≤◌, ◌<◌, eqb, leb}
+use Rattle.std.specs.Prelude.{◌≡◌, refl, List, ◌⊎◌, true, not, ℕ, ◌+◌, ◌≤◌, ◌<◌, eqb, leb}
 use Rattle.std.proofs.Math.Path.{sym, ap}
 use Rattle.std.proofs.Common.{subst, subst₂, ◌∙◌, arith}
 use Rattle.std.proofs.Math.Logic.{inl, inr, ⊎_elim}
@@ -9,16 +9,14 @@ use borrow.Author.Tests.{le-leb, lt-ltb, eq-eqb, ne_eqb}
 use Rattle.records.specs.declared.Header.{Header}
 use Rattle.records.specs.declared.Node.{Node}
 use Rattle.records.specs.Records.{header_of, node_of, padding_of, leaf_node, inner_node}
-use Rattle.inspection.specs.declared.Opened.TheVariants.{Good}
 use Rattle.inspection.specs.Tests.{form_ok, node_ok, root_ok, kids_ok}
-use Rattle.inspection.specs.Opening.{open_of}
 use Rattle.lists.specs.Lists.{All, all_append}
 use Rattle.trees.specs.Tree.{Tree, leaf, inner, top, entries}
 use Rattle.trees.specs.Map.{Map, list_of}
 use Rattle.trees.specs.Nodes.{In, in_top}
 use Rattle.accepted.specs.Rules.{HeaderRules, Holds}
 use Rattle.accepted.specs.Accepted.{nodes_in, HoldsMap, Accepted}
-use Rattle.accepted.specs.Tests.{padding_passes, opened}
+use Rattle.accepted.specs.Tests.{padding_passes}
 
 -- ---- each node passes its test
 
@@ -40,9 +38,6 @@ Clean h ws = (i : ℕ) → 1 ≤ i → i < h.nodes.bump → padding_of ws i ≡ 
 
 pub accepted_clean : {m n : ℕ} {ws : List ℕ} → Accepted m n ws → Clean (header_of n ws) ws
 accepted_clean a i low high = a.padding i low (omega (arith, a.header.nodes.bump_most))
-
-pub accepted_opens : {m n : ℕ} {ws : List ℕ} → Accepted m n ws → open_of m n ws ≡ Good (header_of n ws)
-accepted_opens {m} {n} {ws} a = opened m n ws a.shape a.front a.spare a.header
 
 -- the root's rule: a leaf exactly if n is 1
 pub root_passes : (m n : ℕ) (h : Header) (ws : List ℕ) (t : Tree) → HeaderRules m n h → top t ≡ h.root.0 → nodes_in t ≡ h.nodes.size → Holds h ws 0 0 t

@@ -1,5 +1,5 @@
 -- The tests are the rules: each test, as the calls make it, passes exactly where its rule holds.
-use Rattle.std.specs.Prelude.{◌≡◌, refl, List, ◌≢◌, ◌⊎◌, Bool, true, false, cond, ◌&&◌, ◌||◌, not, ℕ, ◌+◌, ◌-◌, ◌*◌, ◌≤◌, length, eqb}
+use Rattle.std.specs.Prelude.{◌≡◌, refl, List, Bool, true, false, cond, ◌&&◌, ◌||◌, not, ℕ, ◌+◌, ◌-◌, ◌*◌, ◌≤◌, eqb}
 use Rattle.std.proofs.Common.{sym, ap, ◌∙◌, ⊎_elim, arith}
 use Rattle.std.specs.Bool.{beq}
 use Rattle.std.proofs.Math.Decide.{ℕ_discrete}
@@ -10,11 +10,9 @@ use Rattle.node_allocator.specs.Steps.{link_ok}
 use Rattle.records.specs.declared.Header.{Header}
 use Rattle.records.specs.declared.Node.{Node}
 use Rattle.records.specs.declared.ValueRecord.{ValueRecord}
-use Rattle.inspection.specs.declared.Opened.TheVariants.{Good}
 use Rattle.records.specs.Layout.{image_length, most_values, most_nodes}
-use Rattle.records.specs.Records.{header_of, front_of, spare_of, padding_of, value_record_of}
-use Rattle.inspection.specs.Tests.{shape_ok, arena_ok, counts_ok, header_ok, top_ok, padding_ok, live_value, free_node, free_value}
-use Rattle.inspection.specs.Opening.{open_shaped, open_of}
+use Rattle.records.specs.Records.{padding_of, value_record_of}
+use Rattle.inspection.specs.Tests.{shape_ok, arena_ok, counts_ok, header_ok, padding_ok, live_value, free_node, free_value}
 use Rattle.inspection.specs.Room.{Shaped}
 use Rattle.accepted.specs.Rules.{ArenaRules, HeaderRules, Live, Link, FreeNode, FreeValue}
 
@@ -100,13 +98,6 @@ header_passes m n h r =
         rw (eq-eqb h.values.size 0 z, eq-eqb h.root.0 0 (r.root_none z), eq-eqb h.nodes.head 1 (r.empty_head z), arena_passes h.nodes n r.nodes, arena_passes h.values m r.values)
     go (no d) =
         rw (ne_eqb h.values.size 0 d, eq-eqb h.root.0 1 (r.root_one d), arena_passes h.nodes n r.nodes, arena_passes h.values m r.values)
-
--- an image whose shape, padding and header keep the rules is opened
-pub opened : (m n : ℕ) (ws : List ℕ) → Shaped m n (length ws) → front_of ws ≡ 0 → spare_of ws ≡ 0 → HeaderRules m n (header_of n ws)
-    → open_of m n ws ≡ Good (header_of n ws)
-unfolding open_of open_shaped top_ok
-opened m n ws s front spare r =
-    rw (shape_passes s, eq-eqb (front_of ws) 0 front, eq-eqb (spare_of ws) 0 spare, header_passes m n (header_of n ws) r)
 
 -- ---- padding, value records, links and free records
 

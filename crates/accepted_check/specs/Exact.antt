@@ -24,14 +24,15 @@ use Rattle.full_check.specs.Check.{unmarked, root_walk, tree_ok, records_ok, ope
 use Rattle.full_check.specs.Promises.{numbers}
 use Rattle.lists.specs.Lists.{all_map}
 use Rattle.trees.specs.Tree.{top, entries}
-use Rattle.trees.specs.Paths.{depth_bound}
+use Rattle.trees.proofs.Paths.{depth_bound}
 use Rattle.trees.specs.Map.{Map, list_of, OrderedMap}
 use Rattle.trees.specs.Values.{Numbered}
 use Rattle.record_views.specs.Small.{Small}
 use Rattle.accepted.specs.Rules.{HeaderRules}
 use Rattle.accepted.specs.Accepted.{Accepted, HoldsMap, nodes_in}
 use Rattle.accepted.specs.Tests.{shape_passes, header_rules, free_node_clean}
-use Rattle.accepted.specs.Held.{Clean, accepted_clean, accepted_opens, root_passes, some_nodes, entries_used}
+use Rattle.accepted.specs.Held.{Clean, accepted_clean, root_passes, some_nodes, entries_used}
+use Rattle.accepted.proofs.Opens.{accepted_opens}
 use Rattle.accepted_check.specs.Marks.{Fresh, Placed, fresh_different, different_fresh}
 use Rattle.accepted_check.specs.Chains.{node_chain_found, node_chain_passes, value_chain_found, value_chain_passes}
 use Rattle.accepted_check.specs.Passes.{ends, LiveAll, walk_passes}

@@ -15,6 +15,7 @@ use Rattle.records.specs.Numbers.{refusal_number, place_index}
 use Rattle.lookup.specs.Get.{addr_of}
 use Rattle.insert.specs.Steps.{insert_of, insert_image}
 use Rattle.listing.specs.declared.Position.{Position}
+use Rattle.listing.specs.Step.{step_of}
 use Rattle.texts.specs.declared.Command.{Command}
 use Rattle.texts.specs.declared.Command.TheVariants as command
 use Rattle.texts.specs.Texts.{full_text, none_text, set_text, entry_text, end_text, refusal_text}
@@ -70,7 +71,7 @@ listed_text (e ∷ left) zero k l x = absurd (omega arith)
 listed_text {m} {n} {ws} {p} (e ∷ left) (suc fuel) k l x =
     let z : k + suc (length left) ≡ (k + 1) + length left = omega arith in
     rw (moment_gives x false, z)
-    (ap (λ (t : List ℕ). entry_text e.0 e.1 ++ t) (listed_text left fuel (k + 1) (omega arith) (moment_stepped x false))
+    (ap (λ (t : List ℕ). entry_text e.0 e.1 ++ t) (listed_text {p = (step_of false m n ws p).position} left fuel (k + 1) (omega arith) (moment_stepped x false))
     ∙ sym (append_assoc (entry_text e.0 e.1) (entries_text left) (end_text ((k + 1) + length left))))
 
 module _ {m n : ℕ} {ws : List ℕ} (a : Accepted m n ws) where

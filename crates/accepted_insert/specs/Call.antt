@@ -25,7 +25,8 @@ use Rattle.lists.specs.Machine.{FitsValue}
 use Rattle.trees.specs.Keys.{shared}
 use Rattle.trees.specs.Tree.{Tree, top, key_of}
 use Rattle.trees.specs.Lookup.{lookup, value_of}
-use Rattle.trees.specs.Map.{Map, list_of, lookup_in, OrderedMap, map_ascending}
+use Rattle.trees.specs.Map.{Map, list_of, lookup_in, OrderedMap}
+use Rattle.trees.proofs.Map.{map_ascending}
 use Rattle.trees.specs.Changes.{target}
 use Rattle.accepted.specs.Rules.{Live}
 use Rattle.accepted.specs.Held.{list_used}

@@ -21,7 +21,8 @@ use Rattle.trees.specs.Changes.{target}
 use Rattle.accepted.specs.Rules.{Holds, Live}
 use Rattle.accepted.specs.Accepted.{Accepted, HoldsMap, value_at_record}
 use Rattle.accepted.specs.Tests.{live_passes}
-use Rattle.accepted.specs.Held.{kids_pass, accepted_clean, accepted_opens}
+use Rattle.accepted.specs.Held.{kids_pass, accepted_clean}
+use Rattle.accepted.proofs.Opens.{accepted_opens}
 use Rattle.accepted_lookup.specs.Descents.{at, stop_from, found_value}
 use Rattle.accepted_lookup.specs.Answers as lookup_answers
 use Rattle.accepted_lookup.specs.Answers.{listed, find_tree}

@@ -26,8 +26,10 @@ use Rattle.lists.specs.Machine.{FitsValue}
 use Rattle.trees.specs.Keys.{shared, bit, at_most}
 use Rattle.trees.specs.Tree.{Tree, leaf, top, key_of, entries, Ordered}
 use Rattle.trees.specs.Nodes.{In, Child, in_top, in_child}
-use Rattle.trees.specs.Lookup.{lookup, value_of, lookup_find}
-use Rattle.trees.specs.Insert.{insert, put, ordered_insert, entries_insert, lookup_insert}
+use Rattle.trees.specs.Lookup.{lookup, value_of}
+use Rattle.trees.proofs.Lookup.{lookup_find}
+use Rattle.trees.specs.Insert.{insert, put}
+use Rattle.trees.proofs.Insert.{ordered_insert, entries_insert, lookup_insert}
 use Rattle.trees.specs.Map.{Map, list_of, lookup_in, OrderedMap}
 use Rattle.trees.specs.Values.{Numbered, numbered_put, all_put}
 use Rattle.trees.specs.Changes.{target, in_target, top_insert}

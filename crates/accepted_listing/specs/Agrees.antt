@@ -28,9 +28,9 @@ steps (back ∷ sides) m n ws p = (step_of back m n ws p).entry ∷ steps sides 
 steps_left : {m n : ℕ} {ws : List ℕ} {p : Position} {list left : List (Key × Value)} (sides : List Bool) → Moment m n ws p list left
     → steps sides m n ws p ≡ map entry_from (run taken left sides)
 steps_left [] x = refl
-steps_left (back ∷ sides) x =
+steps_left {m = m} {n = n} {ws = ws} {p = p} (back ∷ sides) x =
     let here = moment_gives x back in
-    let rest = steps_left sides (moment_stepped x back) in
+    let rest = steps_left {p = (step_of back m n ws p).position} sides (moment_stepped x back) in
     λ ι. here ι ∷ rest ι
 
 -- Making a position succeeds, and the steps give what the list gives from its two ends, in every order of the steps.

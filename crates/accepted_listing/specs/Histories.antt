@@ -78,11 +78,11 @@ list_after (written key v ∷ moves) list = list_after moves (update key v list)
 heard_left : {m n : ℕ} {ws : List ℕ} {p : Position} {list left : List (Key × Value)} (moves : List Move) → Fitting moves → Moment m n ws p list left
     → heard moves m n ws p ≡ map entry_from (told moves left)
 heard_left [] f x = refl
-heard_left (stepped back ∷ moves) f x =
+heard_left {m = m} {n = n} {ws = ws} {p = p} (stepped back ∷ moves) f x =
     let here = moment_gives x back in
-    let rest = heard_left moves f (moment_stepped x back) in
+    let rest = heard_left {p = (step_of back m n ws p).position} moves f (moment_stepped x back) in
     λ ι. here ι ∷ rest ι
-heard_left (written key v ∷ moves) f x = heard_left moves f.1 (moment_written x key v f.0)
+heard_left {m = m} {n = n} {ws = ws} (written key v ∷ moves) f x = heard_left {ws = write_image m n ws key v} moves f.1 (moment_written x key v f.0)
 
 -- The entries given are those of the list as it is at each step.
 pub history_agrees : {m n : ℕ} {ws : List ℕ} (a : Accepted m n ws) (moves : List Move) → Fitting moves
@@ -187,8 +187,8 @@ pub record Now {m n : ℕ} {ws : List ℕ} (a : Accepted m n ws) (moves : List M
 moment_after : {m n : ℕ} {ws : List ℕ} {p : Position} {list left : List (Key × Value)} (moves : List Move) → Fitting moves → Moment m n ws p list left
     → Moment m n (image_after moves m n ws) (position_after moves m n ws p) (list_after moves list) (left_after moves left)
 moment_after [] f x = x
-moment_after (stepped back ∷ moves) f x = moment_after moves f (moment_stepped x back)
-moment_after (written key v ∷ moves) f x = moment_after moves f.1 (moment_written x key v f.0)
+moment_after {m = m} {n = n} {ws = ws} {p = p} (stepped back ∷ moves) f x = moment_after {p = (step_of back m n ws p).position} moves f (moment_stepped x back)
+moment_after {m = m} {n = n} {ws = ws} (written key v ∷ moves) f x = moment_after {ws = write_image m n ws key v} moves f.1 (moment_written x key v f.0)
 
 entry_given : (o : Option (Key × Value)) (key : Key) (v : Value) → entry_from o ≡ entry.Is key v → o ≡ some (key, v)
 entry_given none key v e = let z : ◌≡◌ {A = ℕ} 0 1 = cc in absurd (omega arith)

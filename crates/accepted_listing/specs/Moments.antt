@@ -15,9 +15,11 @@ use Rattle.lists.specs.Entries.{same, list_end, rest_of, Rising, find, update}
 use Rattle.lists.specs.Answers.{entry_from}
 use Rattle.lists.specs.Machine.{FitsValue}
 use Rattle.trees.specs.Ends.{all_end}
-use Rattle.trees.specs.Map.{Map, list_of, map_ascending}
+use Rattle.trees.specs.Map.{Map, list_of}
+use Rattle.trees.proofs.Map.{map_ascending}
 use Rattle.trees.specs.Values.{Entry}
-use Rattle.trees.specs.Walk.{start, step, Stands, step_stands, start_stands}
+use Rattle.trees.specs.Walk.{start, step, Stands, start_stands}
+use Rattle.trees.proofs.Walk.{step_stands}
 use Rattle.trees.specs.Walk as walk
 use Rattle.accepted.specs.Accepted.{Accepted}
 use Rattle.accepted_lookup.specs.Answers.{valued, valued_rising, listed}

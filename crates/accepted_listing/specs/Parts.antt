@@ -28,7 +28,10 @@ part_children i key p l r (leaf j a v) e = let z : ◌≡◌ {A = ℕ} 0 1 = cc 
 part_children i key p l r (inner j a q x y) (inl e) =
     let left : l ≡ x = cc in
     let right : r ≡ y = cc in
-    (inr (inl (rw left (part_whole x))), inr (inr (rw right (part_whole y))))
+    (
+      inr (inl (subst (λ (u : Tree). Part u x) (sym left) (part_whole x))),
+      inr (inr (subst (λ (u : Tree). Part u y) (sym right) (part_whole y))),
+    )
 part_children i key p l r (inner j a q x y) (inr (inl h)) = let k = part_children i key p l r x h in (inr (inl k.0), inr (inl k.1))
 part_children i key p l r (inner j a q x y) (inr (inr h)) = let k = part_children i key p l r y h in (inr (inr k.0), inr (inr k.1))
 

@@ -25,15 +25,17 @@ use Rattle.listing.specs.Step.{pop_to, live_moved, leaf_moved, opened_moved, mov
 use Rattle.lists.specs.Lists.{All, all_parts}
 use Rattle.lists.specs.Answers.{entry_from}
 use Rattle.trees.specs.Tree.{Tree, leaf, inner, entries, entries_some}
-use Rattle.trees.specs.Paths.{depth_bound}
+use Rattle.trees.proofs.Paths.{depth_bound}
 use Rattle.trees.specs.Map.{Map, OrderedMap}
 use Rattle.trees.specs.Values.{Entry}
 use Rattle.trees.specs.Walk.{End, start, popped, gives, meets, next, end_at, position, move, step}
 use Rattle.trees.specs.Walk as walk
-use Rattle.trees.specs.Stacks.{passed, passed_in, Small, Perched, perched_length, Within, step_within, during_small, start_within, popped_all}
+use Rattle.trees.specs.Stacks.{passed, passed_in, Small, Perched, perched_length, Within, start_within, popped_all}
+use Rattle.trees.proofs.Stacks.{step_within, during_small}
 use Rattle.accepted.specs.Rules.{Live}
 use Rattle.accepted.specs.Accepted.{Accepted, HoldsMap, value_at_record}
-use Rattle.accepted.specs.Held.{accepted_clean, accepted_opens, form_passes}
+use Rattle.accepted.specs.Held.{accepted_clean, form_passes}
+use Rattle.accepted.proofs.Opens.{accepted_opens}
 use Rattle.accepted.specs.Tests.{shape_passes, live_passes}
 use Rattle.accepted_lookup.specs.Answers.{nodes_entries, size_some}
 use Rattle.accepted_lookup.specs.Descents.{at}

@@ -14,7 +14,8 @@ use Rattle.lists.specs.Entries.{same, Before, Rising, find, find_all, unfound, u
 use Rattle.lists.specs.Machine.{FitsValue}
 use Rattle.trees.specs.Tree.{Tree, leaf, inner, entries}
 use Rattle.trees.specs.Lookup.{value_of}
-use Rattle.trees.specs.Map.{Map, list_of, lookup_in, map_ascending}
+use Rattle.trees.specs.Map.{Map, list_of, lookup_in}
+use Rattle.trees.proofs.Map.{map_ascending}
 use Rattle.trees.specs.Values.{Entry}
 use Rattle.accepted.specs.Rules.{Live}
 use Rattle.accepted.specs.Held.{list_used}

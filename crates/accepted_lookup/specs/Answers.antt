@@ -33,13 +33,16 @@ use Rattle.lists.specs.Answers.{got_from, done_from, entry_from}
 use Rattle.trees.specs.Ends.{all_end}
 use Rattle.trees.specs.Tree.{Tree, leaf, inner, top, entries, Ordered}
 use Rattle.trees.specs.Lookup.{lookup, value_of, outermost, outermost_entry}
-use Rattle.trees.specs.Map.{Map, list_of, lookup_in, OrderedMap, map_lookup}
-use Rattle.trees.specs.Paths.{depth, depth_bound}
+use Rattle.trees.specs.Map.{Map, list_of, lookup_in, OrderedMap}
+use Rattle.trees.proofs.Map.{map_lookup}
+use Rattle.trees.specs.Paths.{depth}
+use Rattle.trees.proofs.Paths.{depth_bound}
 use Rattle.trees.specs.Changes.{target}
 use Rattle.accepted.specs.Rules.{Holds, Live}
 use Rattle.accepted.specs.Accepted.{Accepted, HoldsMap, nodes_in, value_at_record}
 use Rattle.accepted.specs.Tests.{live_passes}
-use Rattle.accepted.specs.Held.{root_passes, accepted_clean, accepted_opens}
+use Rattle.accepted.specs.Held.{root_passes, accepted_clean}
+use Rattle.accepted.proofs.Opens.{accepted_opens}
 use Rattle.accepted_lookup.specs.Descents.{at, found_value, stop_from, landed, outermost_landed, landed_node, Sided, end_sided, find_held, sides_held}
 
 -- ---- the ascending list of keys and values

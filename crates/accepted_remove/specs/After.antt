@@ -20,7 +20,8 @@ use Rattle.records.specs.Records.{header_of, node_of, bare_node, value_record_of
 use Rattle.lists.specs.Lists.{All, Pairs, all_map, all_both}
 use Rattle.lists.specs.Entries.{same, find, find_all, held, is_some, held_found, erase, length_erase}
 use Rattle.trees.specs.Tree.{Tree, top, entries}
-use Rattle.trees.specs.Map.{Map, list_of, remove_from, map_remove, map_remove_ordered}
+use Rattle.trees.specs.Map.{Map, list_of, remove_from, map_remove_ordered}
+use Rattle.trees.proofs.Map.{map_remove}
 use Rattle.trees.specs.Values.{Unlike, numbered_erase, all_erase}
 use Rattle.record_views.specs.Nodes.{changed, changed_there, changed_other, with_register}
 use Rattle.record_views.specs.Values.{with_link}

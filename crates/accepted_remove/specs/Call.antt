@@ -23,11 +23,13 @@ use Rattle.trees.specs.Keys.{bit, Bit, testb}
 use Rattle.trees.specs.Tree.{Tree}
 use Rattle.trees.specs.Lookup.{reach, value_of}
 use Rattle.trees.specs.Remove.{hit}
-use Rattle.trees.specs.Map.{Map, list_of, reach_in, map_lookup}
+use Rattle.trees.specs.Map.{Map, list_of, reach_in}
+use Rattle.trees.proofs.Map.{map_lookup}
 use Rattle.accepted.specs.Rules.{Live}
 use Rattle.accepted.specs.Accepted.{Accepted, value_at_record}
 use Rattle.accepted.specs.Tests.{live_passes}
-use Rattle.accepted.specs.Held.{accepted_clean, accepted_opens}
+use Rattle.accepted.specs.Held.{accepted_clean}
+use Rattle.accepted.proofs.Opens.{accepted_opens}
 use Rattle.accepted_lookup.specs.Descents.{at, landed, reach_landed, landed_node, bits_sided}
 use Rattle.accepted_lookup.specs.Answers.{listed, landed_in, sides_tree, find_valued}
 use Rattle.accepted_remove.specs.Spot.{hit_leaf, cut_planned}

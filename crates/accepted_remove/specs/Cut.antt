@@ -16,8 +16,10 @@ use Rattle.records.specs.Records.{header_of, node_of}
 use Rattle.lists.specs.Entries.{find, erase}
 use Rattle.trees.specs.Tree.{Tree, leaf, inner, top, entries, entries_some, Ordered}
 use Rattle.trees.specs.Nodes.{In}
-use Rattle.trees.specs.Lookup.{reach, value_of, reach_find}
-use Rattle.trees.specs.Remove.{hit, remove, entries_remove}
+use Rattle.trees.specs.Lookup.{reach, value_of}
+use Rattle.trees.proofs.Lookup.{reach_find}
+use Rattle.trees.specs.Remove.{hit, remove}
+use Rattle.trees.proofs.Remove.{entries_remove}
 use Rattle.trees.specs.Changes.{spot, in_spot, top_remove}
 use Rattle.trees.specs.Map.{Map, list_of, remove_from, OrderedMap}
 use Rattle.accepted.specs.Rules.{HeaderRules, Holds, FreeNode, Chain, NodeChain}

@@ -88,4 +88,6 @@ module _ (a : Arena) (ws : List ℕ) (c : Counts) where
   chain_remove lies i js named d n k =
       let kept : Chain a (remove_image a ws i c) c.bump c.head js =
       chain_kept a ws (remove_image a ws i c) i named.low (remove_others a ws i c) c.bump c.head js n k in
-      rw (remove_is a ws i c named) (record { here = refl; named = named; inner = d; rest = rw (remove_left a ws i c named lies) kept })
+      let front : Chain a (remove_image a ws i c) c.bump i (i ∷ js) =
+      record { here = refl; named = named; inner = d; rest = rw (remove_left a ws i c named lies) kept } in
+      subst (λ (x : Counts). Chain a (remove_image a ws i c) x.bump x.head (i ∷ js)) (sym (remove_is a ws i c named)) front

@@ -1,5 +1,5 @@
 -- The scratch of the full check, byte by byte: rules I2 and T17.
-use Rattle.std.specs.Prelude.{◌≡◌, refl, List, [], ◌∷◌, ◌++◌, Bool, ◌≢◌, ℕ, zero, suc, ◌+◌, ◌*◌, length, get_or, eqb}
+use Rattle.std.specs.Prelude.{◌≡◌, refl, List, [], ◌∷◌, ◌++◌, Bool, ◌≢◌, ℕ, zero, suc, ◌*◌, length, get_or, eqb}
 use Rattle.std.proofs.Common.{sym, ◌∙◌, arith, take-append-drop, eq-eqb, ne_eqb}
 use Rattle.std.proofs.Math.Path.{ap}
 use Rattle.std.proofs.Math.Bool.{true, false, cond}

@@ -1,6 +1,7 @@
 // What C firmware calls: lookup and the full check, on an image in the firmware's own bytes.
 //
-// Nothing is copied, allocated or kept between calls. A key comes as its high and its low word; each answer is the number of docs/RULES.md, section R. The C side is include/logfringe.h.
+// Nothing is copied, allocated or kept between calls. A key comes as its high and its low word; each answer is the number of docs/RULES.md, section R. `board_c` exports the two calls
+// to C, whose side is include/logfringe.h.
 #![tactic(auto)]
 
 ghost use Rattle.std.specs.Prelude.{◌≡◌, ◌++◌, ◌+◌, ◌≤◌, length, drop};
@@ -60,15 +61,7 @@ fn give(a: Got, out: &mut [u8]) -> u32
 }
 
 // The value of a key: 0, and 16 bytes of `out` are the value; or a refusal's number. An output of fewer than 16 bytes is refusal 1.
-#[unsafe(no_mangle)]
-pub extern "C" fn logfringe_get(
-    img: &[u8],
-    m: u32,
-    n: u32,
-    high: u64,
-    low: u64,
-    out: &mut [u8],
-) -> u32
+pub fn logfringe_get(img: &[u8], m: u32, n: u32, high: u64, low: u64, out: &mut [u8]) -> u32
     ensures answer { result ≡ got_number (lookup_of m n (image_of img.now) (record { high = high; low = low }) out.old) }
     ensures output { out.new ≡ output_after (lookup_of m n (image_of img.now) (record { high = high; low = low }) out.old) out.old }
 {
@@ -80,8 +73,7 @@ pub extern "C" fn logfringe_get(
 }
 
 // The full check: 0 exactly if the header and all records pass; or a refusal's number. A scratch of fewer than 4M bytes is refusal 1.
-#[unsafe(no_mangle)]
-pub extern "C" fn logfringe_check(img: &[u8], m: u32, n: u32, scratch: &mut [u8]) -> u32
+pub fn logfringe_check(img: &[u8], m: u32, n: u32, scratch: &mut [u8]) -> u32
     ensures answer { result ≡ done_number (board_check m n (image_of img.now) scratch.old) }
     ensures scratch { scratch.new ≡ scratch_after m (board_check m n (image_of img.now) scratch.old) scratch.old }
 {

@@ -1,5 +1,5 @@
 -- Lines and answers, and what is kept of a line that has begun, computed.
-use Rattle.std.specs.Prelude.{◌≡◌, refl, List, [], ◌∷◌, ◌++◌, true, false, ℕ, ◌+◌, ◌^◌, replicate}
+use Rattle.std.specs.Prelude.{◌≡◌, refl, List, [], ◌∷◌, ◌++◌, true, false, ℕ, ◌^◌, replicate}
 use Rattle.records.specs.Numbers.{refusal_number}
 use Rattle.records.specs.declared.Refusal.TheVariants as no
 use Rattle.records.specs.declared.Place.TheVariants as place

@@ -5,7 +5,7 @@ use Rattle.std.proofs.Math.Logic.{inl, inr}
 use Rattle.std.proofs.Common.{⊎_elim, arith, eq-or-lt_of_le, eqb-true}
 use Rattle.std.proofs.Math.Bool.{true, false}
 use Rattle.std.specs.Bool.{beq}
-use Prim.Native.Nat.{ℕ, zero, suc, ◌+◌, ◌≤◌, ◌<◌}
+use Prim.Native.Nat.{ℕ, zero, suc, ◌+◌, ◌<◌}
 use Rattle.std.proofs.Math.Dec.{eqb}
 use Rattle.std.proofs.lemmas.Bool.{eqb-false}
 use Rattle.words.specs.Tests.{and_l, and_r, beq_equal}

@@ -1,15 +1,13 @@
 -- What the loops go by: a step down raises the least prefix length, so that a descent ends within 129 nodes, and what is left of a descent after a step is what was left before it.
 -- One proof for every turn.
-use Rattle.std.specs.Prelude.{◌≡◌, List, Bool, ◌⊎◌, eqb, leb, ltb}
+use Rattle.std.specs.Prelude.{◌≡◌, List, Bool, ◌⊎◌, ltb}
 use Rattle.std.proofs.Math.Path.{refl, sym}
-use Rattle.std.proofs.Common.{ap, subst, ◌∙◌, inl, inr, arith, leb-true, ltb-true, eqb-true}
+use Rattle.std.proofs.Common.{ap, subst, ◌∙◌, inl, inr, arith, eqb-true}
 use Rattle.std.proofs.Math.Bool.{true, false, cond}
 use Prim.Native.Nat.{ℕ, zero, suc, ◌+◌, ◌≤◌, ◌<◌}
-use Rattle.words.specs.Tests.{and_l, and_r, or_cases}
 use Rattle.keys.specs.declared.Key.{Key}
 use Rattle.keys.specs.Number.{number_of}
 use Rattle.keys.specs.declared.Way.TheVariants.{Parts}
-use Rattle.keys.specs.Common.{common}
 use Rattle.keys.specs.Ways.{way_to, way_of, way_parts, way_side}
 use Rattle.records.specs.declared.Header.{Header}
 use Rattle.records.specs.declared.Node.{Node}

@@ -2,7 +2,6 @@
 -- `image_left` in Calls; `Accepted` in the crate accepted. Over the bytes that the code's own calls are lent the same stands in the crate lent.
 use Rattle.std.specs.Prelude.{◌≡◌, refl, List, ◌∷◌, map, ◌≢◌, ◌↔◌, false, ℕ, suc, ◌-◌, ◌*◌, ◌≤◌, min, length}
 use Rattle.std.proofs.Common.{sym, ap, subst, ◌∙◌, arith}
-use Rattle.std.proofs.Math.Option.{none}
 use Rattle.keys.specs.declared.Key.{Key}
 use Rattle.keys.specs.Number.{Fits}
 use Rattle.records.specs.declared.NodeIndex.{NodeIndex}
@@ -26,7 +25,6 @@ use Rattle.records_touched.specs.Inserted.{insert_touched}
 use Rattle.records_touched.specs.Removed.{remove_touched}
 use Rattle.records_touched.specs.Written.{start_touched, write_touched}
 use Rattle.full_check.specs.Check.{check_of}
-use Rattle.listing.specs.declared.Position.{Position}
 use Rattle.trees.specs.Map.{shape_is}
 use Rattle.trees.specs.Shape.{shape}
 use Rattle.record_views.specs.Small.{Small}
@@ -45,7 +43,6 @@ use Rattle.histories.specs.Shapes.{keys_of, longest, Descends, canonical_shape, 
 use Rattle.histories.specs.NotEmpty.{Limits, zero_words, inserts, FitsEntry, every_list}
 use Rattle.histories.specs.ShutOut.{story, told, story_told, none_fixed}
 use Rattle.histories.specs.Sharp.{bound_reached}
-use Rattle.histories.specs.Listings.{Move, FittingMove, move_answers, moves_told, MeetAll, image_then, state_then, listing_history}
 
 -- ---- demand 1, over every call
 
@@ -107,10 +104,7 @@ pub record IndexLaw (m n : ℕ) (ws : List ℕ) (key : Key) (es : Entries) : Typ
 pub index_law : {m n : ℕ} {ws : List ℕ} (a : Accepted m n ws) (key : Key) → Fits key → IndexLaw m n ws key (listed a)
 index_law a key f = record { absent = address_absent a key; names = address_names a key f; inserted = insert_addressed a key f }
 
--- "Listings: from positions made since the last insert or remove": every history of calls with any number of listings in it, interleaved with the calls and with each other, from both ends.
-pub listings_too : (m n : ℕ) (ws : List ℕ) (s : State) → Is m n ws s → (ps : ℕ → Position) (xs : List Move) → All FittingMove xs
-    → MeetAll (move_answers m n xs ws ps) (moves_told m xs s (λ k. none)) × Is m n (image_then m n xs ws) (state_then m xs s)
-listings_too = listing_history
+-- "Listings: from positions made since the last insert or remove": `listings_too` (proofs/Demands).
 
 -- "A full map refuses even a key it holds", whatever the key, and nothing changes.
 pub full_refuses : {m n : ℕ} {ws : List ℕ} (a : Accepted m n ws) (key : Key) → Fits key → (v : Value) → FitsValue v → length (listed a) ≡ m

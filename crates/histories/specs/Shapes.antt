@@ -10,9 +10,11 @@ use Rattle.records.specs.declared.Node.{Node}
 use Rattle.records.specs.Records.{header_of, node_of}
 use Rattle.lists.specs.Entries.{Rising}
 use Rattle.trees.specs.Tree.{Tree, leaf, inner, top}
-use Rattle.trees.specs.Map.{Map, list_of, OrderedMap, shape_is, map_shape, map_ascending}
+use Rattle.trees.specs.Map.{Map, list_of, OrderedMap, shape_is}
+use Rattle.trees.proofs.Map.{map_shape, map_ascending}
 use Rattle.trees.specs.Shape.{shape}
-use Rattle.trees.specs.Paths.{depth, depth_bound}
+use Rattle.trees.specs.Paths.{depth}
+use Rattle.trees.proofs.Paths.{depth_bound}
 use Rattle.accepted.specs.Rules.{Holds}
 use Rattle.accepted.specs.Accepted.{Accepted, HoldsMap, value_at_record}
 use Rattle.accepted_lookup.specs.Answers.{valued, valued_rising, listed}

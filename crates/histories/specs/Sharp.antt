@@ -9,11 +9,14 @@ use Rattle.records.specs.Numbers.{zero_value}
 use Rattle.lists.specs.Lists.{All, all_map, all_mapped, pairs_mapped}
 use Rattle.lists.specs.Entries.{Before, Rising}
 use Rattle.lists.specs.Machine.{Call, start, Entries}
-use Rattle.trees.specs.Tree.{Tree, leaf, inner, entries, each_entries, each_fits, Ordered, ascending}
-use Rattle.trees.specs.Map.{Map, shape_is, map_shape}
+use Rattle.trees.specs.Tree.{Tree, leaf, inner, entries, each_entries, each_fits, Ordered}
+use Rattle.trees.proofs.Tree.{ascending}
+use Rattle.trees.specs.Map.{Map, shape_is}
+use Rattle.trees.proofs.Map.{map_shape}
 use Rattle.trees.specs.Shape.{Shape, lone, branch, shape_of, shape}
 use Rattle.trees.specs.Shape as shapes
-use Rattle.trees.specs.Paths.{depth, powers, longest_path}
+use Rattle.trees.specs.Paths.{depth, powers}
+use Rattle.trees.proofs.Paths.{longest_path}
 use Rattle.accepted.specs.Accepted.{Accepted}
 use Rattle.accepted_lookup.specs.Answers.{listed}
 use Rattle.histories.specs.Calls.{image_after}

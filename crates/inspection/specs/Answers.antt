@@ -1,9 +1,8 @@
 -- "When, and only then": what the number of a call's answer says of its opening. Every call but start answers by the opened header, so these hold for each of them.
 use Rattle.std.proofs.Math.Path.{◌≡◌, sym, ap}
-use Rattle.std.specs.Prelude.{refl, List, ◌≢◌, ◌↔◌, ◌⊎◌, Bool, true, cond, ℕ, length}
+use Rattle.std.specs.Prelude.{refl, List, ◌≢◌, ◌↔◌, ◌⊎◌, Bool, true, ℕ, length}
 use Rattle.std.proofs.Common.{◌∙◌, inl, inr, true≢false, arith}
 use Rattle.std.proofs.Math.Bool.{false}
-use Rattle.std.proofs.lemmas.Bool.{false≢true}
 use Rattle.records.specs.declared.Header.{Header}
 use Rattle.records.specs.declared.Refusal.{Refusal}
 use Rattle.records.specs.declared.Refusal.TheVariants as no

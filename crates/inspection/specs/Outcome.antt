@@ -1,6 +1,6 @@
 -- What a call that may write leaves of the buffer: the image's words afterwards, and after a refusal every byte as it was. With the answer these determine the whole outcome.
 use Rattle.std.specs.Prelude.{◌≡◌, refl, List, ◌≢◌, ℕ, ◌%◌, length}
-use Rattle.std.proofs.Common.{sym, ap, ◌∙◌, arith}
+use Rattle.std.proofs.Common.{sym, ap, ◌∙◌}
 use Rattle.std.proofs.Math.Decide.{ℕ_discrete}
 use Rattle.words.specs.Words.{words, Bytes, words_tell}
 use Rattle.records.specs.Layout.{image_of}

@@ -1,13 +1,11 @@
 -- What an opened image gives: it is a whole number of words, as many as M and N ask for, and it has room for every record below a bump.
-use Rattle.std.specs.Prelude.{◌≡◌, refl, List, [], Bool, true, false, cond, ◌&&◌, ℕ, ◌+◌, ◌*◌, ◌%◌, ◌≤◌, ◌<◌, length, eqb, leb, ltb}
+use Rattle.std.specs.Prelude.{◌≡◌, refl, List, [], Bool, true, false, cond, ◌&&◌, ℕ, ◌+◌, ◌*◌, ◌%◌, ◌≤◌, ◌<◌, length, eqb}
 use Rattle.std.proofs.Common.{sym, ap, ◌∙◌, true≢false, arith, leb-true, ltb-true, eqb-true, eq-eqb, ne_eqb}
 use Rattle.std.proofs.Math.Decide.{ℕ_discrete}
 use Rattle.words.specs.Tests.{and_l, and_r}
 use Rattle.words.specs.Words.{words, words_length}
-use Rattle.node_allocator.specs.declared.Counts.{Counts}
 use Rattle.records.specs.declared.Header.{Header}
 use Rattle.records.specs.declared.Refusal.{Refusal}
-use Rattle.inspection.specs.declared.Opened.{Opened}
 use Rattle.inspection.specs.declared.Opened.TheVariants.{Good, Shut}
 use Rattle.records.specs.Layout.{image_of, image_length, most_values, most_nodes}
 use Rattle.records.specs.Records.{header_of}

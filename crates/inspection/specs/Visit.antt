@@ -1,16 +1,15 @@
 -- A node tested as a visited node, with what it then is: an inner node, a leaf, or damaged. This is the one test of a visited node; the code tests
 -- first what both kinds share and then asks for the node's kind, and `visit_kind` and `first_kind` say that this is the same.
 use Rattle.std.proofs.Math.Path.{◌≡◌, refl}
-use Rattle.std.proofs.Common.{sym, ap, ◌∙◌, inl, inr, ⊎_elim, eq-zero-or-pos}
-use Rattle.std.specs.Prelude.{List, ◌⊎◌, Bool, ◌&&◌, ◌||◌, not, ℕ, ◌+◌, ◌≤◌, ◌<◌, ltb}
+use Rattle.std.proofs.Common.{sym, ◌∙◌, inl, inr, ⊎_elim, eq-zero-or-pos}
+use Rattle.std.specs.Prelude.{List, ◌⊎◌, Bool, ◌&&◌, ◌||◌, ℕ, ◌≤◌, ◌<◌, ltb}
 use Rattle.std.proofs.Math.Bool.{true, false, cond}
 use native.Mathlib.Omega.{arith}
 use Rattle.std.proofs.Math.Dec.{eqb, leb}
-use borrow.Author.Tests.{leb-true, ltb-true, eqb-true, eq-eqb, ne_eqb, le-leb}
+use borrow.Author.Tests.{leb-true, ltb-true, eqb-true, eq-eqb, le-leb}
 use Rattle.words.specs.Tests.{and_l, and_r, or_cases}
 use Rattle.records.specs.declared.Header.{Header}
 use Rattle.records.specs.declared.Node.{Node}
-use Rattle.records.specs.declared.Value.{Value}
 use Rattle.records.specs.Records.{node_of, value_record_of}
 use Rattle.inspection.specs.declared.Visited.{Visited}
 use Rattle.inspection.specs.declared.Visited.TheVariants.{Inner, Leaf, Damaged}

@@ -1,7 +1,7 @@
 -- Where a key goes at a prefix, as a descent goes that compares them: rule S2. At the first p bits of another key it goes
 -- to the side of its own bit p, or parts from that key before.
 use Rattle.std.proofs.Math.Path.{◌≡◌, refl}
-use Rattle.std.proofs.Common.{sym, ◌∙◌, arith}
+use Rattle.std.proofs.Common.{arith}
 use Rattle.std.specs.Prelude.{Bool, ℕ, ltb}
 use Rattle.std.proofs.Math.Bool.{true, false, cond}
 use Rattle.keys.specs.declared.Way.{Way}

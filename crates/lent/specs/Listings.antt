@@ -18,9 +18,11 @@ use Rattle.lists.specs.Answers.{Answer, done_is, entry_is}
 use Rattle.lists.specs.Machine.{Entries, State, blank, holding}
 use Rattle.histories.specs.Agrees.{Is}
 use Rattle.histories.specs.NotEmpty.{Limits}
-use Rattle.histories.specs.Listings.{Move, FittingMove, changed_at, move_answer, move_image, move_positions, move_answers, image_then, positions_then, moves_told, state_then, lefts_then, MeetAll, Watched, unpromised, moves_agree}
+use Rattle.histories.specs.Listings.{Move, FittingMove, changed_at, move_answer, move_image, move_positions, move_answers, image_then, positions_then, moves_told, state_then, lefts_then, MeetAll, Watched, unpromised}
+use Rattle.histories.proofs.Listings.{moves_agree}
 use Rattle.histories.specs.Listings as listings
-use Rattle.histories.specs.Demands.{Ends, after_any_history, listings_too}
+use Rattle.histories.specs.Demands.{Ends, after_any_history}
+use Rattle.histories.proofs.Demands.{listings_too}
 use Rattle.lent.specs.Histories.{LentCall, call_of, Ran, fitting, ran_answer, ran_image, blank_bytes, checked_bytes}
 
 -- ---- the moves

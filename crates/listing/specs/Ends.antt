@@ -1,6 +1,6 @@
 -- A step as the code takes it: one end's stack alone, and what refuses first; and that it is the position's step. The stack is written while its nodes are tested, and goes back as it came
 -- where a test fails.
-use Rattle.std.specs.Prelude.{◌≡◌, List, ◌≢◌, Bool, ◌&&◌, ◌||◌, ℕ, zero, suc, ◌+◌, ◌-◌, ◌*◌, ◌≤◌, ◌<◌, length}
+use Rattle.std.specs.Prelude.{◌≡◌, List, Bool, ◌&&◌, ◌||◌, ℕ, zero, suc, ◌≤◌, length}
 use Rattle.std.proofs.Math.Path.{refl}
 use Rattle.std.proofs.Common.{sym, ap, ◌∙◌, arith, leb-true}
 use Rattle.std.proofs.Math.Bool.{true, false, cond}

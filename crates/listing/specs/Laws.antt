@@ -1,7 +1,7 @@
 -- What the loop that opens nodes goes by: prefix lengths rise from a node to its children, so that it ends, and what is left of it after a turn is what was
 -- left before.
 use Rattle.std.proofs.Math.Path.{◌≡◌, refl, sym, ap}
-use Rattle.std.proofs.Common.{◌∙◌, inl, arith}
+use Rattle.std.proofs.Common.{◌∙◌, arith}
 use Rattle.std.specs.Prelude.{List, Bool, ◌&&◌, not, length, set, leb}
 use Rattle.std.proofs.Math.Bool.{true, false, cond}
 use Rattle.std.proofs.lemmas.Bool.{false≢true}
@@ -12,18 +12,16 @@ use Rattle.words.specs.Tests.{and_l, and_r}
 use Rattle.words.specs.Words.{words}
 use Rattle.records.specs.Layout.{image_of}
 use Rattle.records.specs.declared.Header.{Header}
-use Rattle.records.specs.declared.Node.{Node}
 use Rattle.records.specs.declared.NodeIndex.{NodeIndex}
 use Rattle.records.specs.declared.ValueIndex.{ValueIndex}
-use Rattle.records.specs.Records.{node_of}
 use Rattle.inspection.specs.declared.Visited.{Visited}
 use Rattle.inspection.specs.declared.Visited.TheVariants as visited
-use Rattle.inspection.specs.Tests.{form_ok, node_ok}
+use Rattle.inspection.specs.Tests.{node_ok}
 use Rattle.inspection.specs.Visit.{visit_of, first_of, visit_passed, first_passed}
 use Rattle.inspection.specs.Room.{Room, room, image_words}
 use Rattle.listing.specs.declared.Stack.{Stack}
 use Rattle.listing.specs.declared.Opens.{Opens}
-use Rattle.listing.specs.declared.Opens.TheVariants.{On, Came, Spoiled}
+use Rattle.listing.specs.declared.Opens.TheVariants.{On, Spoiled}
 use Rattle.listing.specs.declared.Reached.{Reached}
 use Rattle.listing.specs.declared.Given.{Given}
 use Rattle.listing.specs.declared.Admitted.TheVariants.{Go}

@@ -1,6 +1,5 @@
 -- Making a position: rule L5. It tests shape and header only; in an empty map it succeeds with empty stacks. A refused making gives a position of zeros.
-use Rattle.std.specs.Prelude.{List, Bool, false, cond, ℕ, replicate, set, eqb}
-use Rattle.records.specs.declared.Header.{Header}
+use Rattle.std.specs.Prelude.{List, false, cond, ℕ, replicate, set, eqb}
 use Rattle.records.specs.declared.NodeIndex.{NodeIndex}
 use Rattle.inspection.specs.declared.Opened.{Opened}
 use Rattle.inspection.specs.declared.Opened.TheVariants.{Good, Shut}

@@ -5,15 +5,12 @@ use Rattle.std.proofs.Common.{sym, ◌∙◌, inl, inr, ⊎_elim, true≢false, 
 use Rattle.std.specs.Prelude.{List, ◌↔◌, ◌⊎◌, Bool, cond, ◌&&◌, ◌||◌, ℕ, length, eqb, leb}
 use Rattle.std.proofs.Math.Logic.{◌≢◌}
 use Rattle.std.proofs.Math.Bool.{true, false}
-use Rattle.records.specs.declared.Header.{Header}
 use Rattle.records.specs.declared.ValueIndex.{ValueIndex}
-use Rattle.records.specs.declared.Refusal.{Refusal}
 use Rattle.records.specs.declared.Refusal.TheVariants as no
 use Rattle.records.specs.declared.Entry.{Entry}
 use Rattle.records.specs.declared.Entry.TheVariants as entry
 use Rattle.inspection.specs.declared.Opened.{Opened}
 use Rattle.inspection.specs.declared.Opened.TheVariants.{Good, Shut}
-use Rattle.records.specs.declared.Done.TheVariants as done
 use Rattle.records.specs.declared.Node.{Node}
 use Rattle.records.specs.Records.{header_of, value_record_of}
 use Rattle.inspection.specs.declared.Visited.{Visited}
@@ -27,7 +24,6 @@ use Rattle.inspection.specs.Room.{open_header}
 use Rattle.inspection.specs.Answers.{OpensAs, misshapen, unsound, sound, opens}
 use Rattle.listing.specs.declared.Stack.{Stack}
 use Rattle.listing.specs.declared.Position.{Position}
-use Rattle.listing.specs.declared.Made.{Made}
 use Rattle.listing.specs.declared.Reached.{Reached}
 use Rattle.listing.specs.declared.Moved.{Moved}
 use Rattle.listing.specs.declared.Stepped.{Stepped}

@@ -1,6 +1,6 @@
 -- Get, contains, `get_addr` and the value write: rules S2, S3 and T10. Each opens the image and descends; a value record is tested only where its value is
 -- read or written.
-use Rattle.std.specs.Prelude.{List, cond, ◌≡◌, refl, ℕ}
+use Rattle.std.specs.Prelude.{List, ◌≡◌, refl, ℕ}
 use Rattle.std.proofs.Common.{arith}
 use Rattle.keys.specs.declared.Key.{Key}
 use Rattle.records.specs.declared.Header.{Header}

@@ -41,7 +41,7 @@ use Rattle.descent.specs.Descent.{find_of, end_of}
 use Rattle.descent.specs.Bits.{Reached, leaf, fails, end_reaches}
 use Rattle.lookup.specs.declared.Target.{Target}
 use Rattle.lookup.specs.declared.Target.TheVariants.{At, No}
-use Rattle.lookup.specs.Start.{started, start_of, start_image, done_image, started_shaped, opened_length, length_of, opened_capacity, capacity_reply}
+use Rattle.lookup.specs.Start.{started, start_of, start_image, done_image, opened_length, length_of, opened_capacity, capacity_reply}
 use Rattle.lookup.specs.Get.{live_target, stop_target, opened_target, target_of, target_opened, target_got, get_of, target_done, write_of, target_image, write_image, stop_done, opened_done, contains_of, stop_place, opened_place, addr_of}
 use Rattle.lookup.specs.Ends.{target_entry, opened_entry, end_entry}
 

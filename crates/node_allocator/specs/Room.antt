@@ -1,6 +1,6 @@
 -- What the functions go by where the arena is known: an index that names a record lies within its capacity, and a record that was never used is
 -- zero four words at a time, twelve of a node and eight of a value record.
-use Rattle.std.specs.Prelude.{◌≡◌, ℕ, ◌+◌, ◌≤◌, Bool, true, false, ◌&&◌, List, nat_le}
+use Rattle.std.specs.Prelude.{◌≡◌, ℕ, ◌+◌, ◌≤◌, true, ◌&&◌, List, nat_le}
 use Rattle.std.proofs.Common.{◌∙◌, leb-true}
 use native.Mathlib.Omega.{arith}
 use Rattle.words.specs.Tests.{and_l, and_r}

@@ -1,6 +1,6 @@
 -- What a line that is not bad looks like: it is its command's own text, byte for byte, and the text of a command asks for that command. So the definitions by places in Lines say what the rules C say in
 -- words: "one space parts the fields; keys and values are 32 lowercase hex digits, high or first word first", and nothing else is taken.
-use Rattle.std.specs.Prelude.{◌≡◌, refl, Bool, true, false, cond, ◌&&◌, ◌⊎◌, ℕ, zero, suc, ◌+◌, ◌*◌, ◌-◌, ◌/◌, ◌%◌, ◌<◌, ◌≤◌, get_or, drop, ltb, leb, eqb}
+use Rattle.std.specs.Prelude.{◌≡◌, refl, Bool, true, false, cond, ◌&&◌, ℕ, zero, suc, ◌+◌, ◌*◌, ◌-◌, ◌/◌, ◌%◌, ◌<◌, ◌≤◌, get_or, drop, leb, eqb}
 use Rattle.std.proofs.Common.{sym, ◌∙◌, ⊎_elim, add-suc, arith, drop-cons}
 use Rattle.std.proofs.Math.Path.{ap}
 use mathlib.Core.List.{List, [], ◌∷◌, ◌++◌, append_assoc, append-nil}

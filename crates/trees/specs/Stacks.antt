@@ -1,17 +1,15 @@
 -- The stacks of a listing. A stack holds subtrees that hang off one path, and prefix lengths rise along it, so "two stacks of at most 129 node indexes"
 -- (the rules L) are enough at every moment, also between the two pushes of an inner node and the pop that follows, in every order of the steps.
-use Rattle.std.specs.Prelude.{◌≡◌, refl, Bool, true, false, cond, List, [], ◌∷◌, ◌++◌, ℕ, suc, ◌≤◌, ◌<◌, eqb, length}
+use Rattle.std.specs.Prelude.{◌≡◌, refl, Bool, true, false, cond, List, [], ◌∷◌, ◌++◌, ℕ, ◌≤◌, ◌<◌, length}
 use Rattle.std.proofs.Math.Option.{none, some}
 use Rattle.std.proofs.Common.{arith}
 use Rattle.keys.specs.declared.Key.{Key}
-use Rattle.lists.specs.Lists.{All, all_append}
+use Rattle.lists.specs.Lists.{All}
 use Rattle.lists.specs.Entries.{list_end}
-use Rattle.trees.specs.Keys.{chosen}
 use Rattle.trees.specs.Ends.{end_beside}
 use Rattle.trees.specs.Tree.{Tree, leaf, inner, prefix_of, Ordered, prefix_low}
-use Rattle.trees.specs.Paths.{rising}
 use Rattle.trees.specs.Map.{Map, OrderedMap}
-use Rattle.trees.specs.Walk.{Position, start, popped, gives, meets, next, end_at, move, step}
+use Rattle.trees.specs.Walk.{Position, start, popped, end_at, step}
 
 -- ---- the moments
 
@@ -45,22 +43,6 @@ moments w (b ∷ bs) = w.front.stack ∷ w.back.stack ∷ (during b w ++ moments
 abbrev pub Both : (List Tree → Type 0) → Position → Type 0
 Both Q w = Q w.front.stack × Q w.back.stack
 
--- what a pop keeps of a stack, a step keeps of both
-module _ (Q : List Tree → Type 0) (kept : (b : Bool) (t : Tree) (s : List Tree) → Q (t ∷ s) → Q (popped b t s).1) where
-  next_keeps : (b : Bool) (s : List Tree) (last other : ℕ) → Q s → Q (next b s last other).1.stack
-  next_keeps b [] last other h = h
-  next_keeps b (t ∷ s) last other h =
-      let x = popped b t s in
-      let left = kept b t s h in
-      chosen (λ r. Q r.1.stack) (eqb x.0.1 other) (meets x last) (gives x) left left
-
-  move_keeps : (b : Bool) (w : Position) → Both Q w → Both Q (move b w).1
-  move_keeps false w h = (next_keeps false w.front.stack w.front.last w.back.last h.0, h.1)
-  move_keeps true w h = (h.0, next_keeps true w.back.stack w.back.last w.front.last h.1)
-
-  pub step_keeps : (b : Bool) (w : Position) → Both Q w → Both Q (step b w).1
-  step_keeps b w h = chosen (λ z. Both Q z.1) w.ended (none, w) (move b w) h (move_keeps b w h)
-
 -- what holds of a tree, and of the children of each node of which it holds, holds of every subtree on a stack
 pub popped_all : (P : Tree → Type 0) → ((i : ℕ) (k : Key) (p : ℕ) (l r : Tree) → P (inner i k p l r) → P l × P r)
     → (b : Bool) (t : Tree) (s : List Tree) → All P (t ∷ s) → All P (popped b t s).1
@@ -75,13 +57,9 @@ abbrev pub Hang : ℕ → List Tree → Type 0
 Hang m [] = Unit {0}
 Hang m (t ∷ s) = (p : ℕ) × (p < m) × (p < prefix_of t) × Ordered t × Hang p s
 
-hang_length : (m : ℕ) (s : List Tree) → Hang m s → length s ≤ m
+pub hang_length : (m : ℕ) (s : List Tree) → Hang m s → length s ≤ m
 hang_length m [] h = omega arith
 hang_length m (t ∷ s) (p, l, q, o, h) = omega (arith, hang_length p s h)
-
-hang_more : (m n : ℕ) (s : List Tree) → m ≤ n → Hang m s → Hang n s
-hang_more m n [] l h = tt
-hang_more m n (t ∷ s) l (p, k, q, o, h) = (p, omega arith, q, o, h)
 
 -- t may be popped from above s
 pub record Above (t : Tree) (s : List Tree) : Type 0 where
@@ -94,72 +72,17 @@ abbrev pub Perched : List Tree → Type 0
 Perched [] = Unit {0}
 Perched (t ∷ s) = Above t s
 
-perched : (m : ℕ) (s : List Tree) → Hang m s → Perched s
-perched m [] h = tt
-perched m (t ∷ s) (p, l, q, o, h) = record { order = o; least = p; rises = omega arith; hangs = h }
-
 pub perched_length : (s : List Tree) → Perched s → length s ≤ 129
 perched_length [] h = omega arith
 perched_length (t ∷ s) h = omega (arith, hang_length h.least s h.hangs, h.rises, prefix_low t h.order)
-
--- an inner node is replaced by its children, either of them on top: the other one hangs at the node's prefix length
-children : (i : ℕ) (k : Key) (p : ℕ) (l r : Tree) (s : List Tree) → Above (inner i k p l r) s → Above l (r ∷ s) × Above r (l ∷ s)
-children i k p l r s h = (pushed l r o.on_left o.on_right on_left on_right, pushed r l o.on_right o.on_left on_right on_left)
-  where
-    o : Ordered (inner i k p l r)
-    o = h.order
-
-    on_left : p < prefix_of l
-    on_left = rising k false l o.low o.left o.on_left
-
-    on_right : p < prefix_of r
-    on_right = rising k true r o.low o.right o.on_right
-
-    pushed : (near far : Tree) → Ordered near → Ordered far → p < prefix_of near → p < prefix_of far → Above near (far ∷ s)
-    pushed near far x y q z = record { order = x; least = suc p; rises = q; hangs = (p, omega arith, z, y, hang_more h.least p s h.rises h.hangs) }
 
 -- ---- the bound
 
 abbrev pub Small : List Tree → Type 0
 Small s = length s ≤ 129
 
-passed_small : (b : Bool) (t : Tree) (s : List Tree) → Above t s → All Small (passed b t s) × Perched (popped b t s).1
-passed_small b (leaf i k v) s h = ((omega (arith, hang_length h.least s h.hangs, h.rises), tt), perched h.least s h.hangs)
-passed_small false (inner i k p l r) s h =
-    let a = (children i k p l r s h).0 in
-    let z = passed_small false l (r ∷ s) a in
-    ((perched_length (l ∷ r ∷ s) a, z.0), z.1)
-passed_small true (inner i k p l r) s h =
-    let a = (children i k p l r s h).1 in
-    let z = passed_small true r (l ∷ s) a in
-    ((perched_length (r ∷ l ∷ s) a, z.0), z.1)
-
-passed_in_small : (b : Bool) (s : List Tree) → Perched s → All Small (passed_in b s)
-passed_in_small b [] h = tt
-passed_in_small b (t ∷ s) h = (passed_small b t s h).0
-
 abbrev pub Within : Position → Type 0
 Within w = Both Perched w
-
-pub step_within : (b : Bool) (w : Position) → Within w → Within (step b w).1
-step_within b w h = step_keeps Perched (λ b t s p. (passed_small b t s p).1) b w h
-
-pub during_small : (b : Bool) (w : Position) → Within w → All Small (during b w)
-during_small b w h = chosen (All Small) w.ended [] (passed_in b (end_at b w).stack) tt (passed_in_small b (end_at b w).stack (near b))
-  where
-    near : (b : Bool) → Perched (end_at b w).stack
-    near false = h.0
-    near true = h.1
-
-moments_small : (w : Position) (sides : List Bool) → Within w → All Small (moments w sides)
-moments_small w [] h = (perched_length w.front.stack h.0, (perched_length w.back.stack h.1, tt))
-moments_small w (b ∷ sides) h = (
-  perched_length w.front.stack h.0,
-  (
-    perched_length w.back.stack h.1,
-    all_append Small (during b w) (moments (step b w).1 sides) (during_small b w h) (moments_small (step b w).1 sides (step_within b w h)),
-  ),
-)
 
 pub start_within : (m : Map) → OrderedMap m → Within (start m)
 start_within none o = (tt, tt)
@@ -167,7 +90,3 @@ start_within (some t) o = (alone, alone)
   where
     alone : Above t []
     alone = record { order = o; least = 0; rises = omega arith; hangs = tt }
-
--- At every moment of a listing, in every order of its steps, no stack holds more than 129 subtrees.
-pub stacks_bound : (m : Map) → OrderedMap m → (sides : List Bool) → All (λ s. length s ≤ 129) (moments (start m) sides)
-stacks_bound m o sides = moments_small (start m) sides (start_within m o)

@@ -5,8 +5,7 @@ use Rattle.std.proofs.lemmas.List.{map-append}
 use Rattle.std.proofs.Common.{arith, length-append}
 use Rattle.keys.specs.declared.Key.{Key}
 use Rattle.keys.specs.Number.{number_of, Fits}
-use Rattle.lists.specs.Lists.{All, all_append, pairs_append, across}
-use Rattle.lists.specs.Entries.{Before, Rising}
+use Rattle.lists.specs.Lists.{All, all_append}
 use Rattle.trees.specs.Keys.{shared, bit, turn, ultra, order}
 use Rattle.trees.specs.Ends.{beside}
 
@@ -152,12 +151,3 @@ ordered_fork i true near far f h n m x y = record { fits = f; low = h; left = m;
 
 pub sides : (k : Key) (p : ℕ) {a b : Key} → Fits a → Side k p false a → Side k p true b → number_of a < number_of b
 sides k p {a} {b} f x y = order b f (omega (arith, x.shares, y.shares, turn k a, ultra a k b)) x.turns y.turns
-
--- The entries of an ordered tree stand in strictly ascending order of their keys.
-pub ascending : (t : Tree) → Ordered t → Rising (entries t)
-ascending (leaf i k v) o = (tt, tt)
-ascending (inner i k p l r) o =
-    pairs_append Before (entries l) (entries r) (ascending l o.on_left) (ascending r o.on_right)
-    (across (λ a b x y. sides k p x.0 x.1 y) (entries l) (entries r)
-    (each_entries (λ a. Fits a × Side k p false a) l (each_both (λ a f h. (f, h)) l (each_fits l o.on_left) o.left))
-    (each_entries (Side k p true) r o.right))

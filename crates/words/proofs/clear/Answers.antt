@@ -1,6 +1,6 @@
 -- `words::clear` meets its contract.
 use mathlib.Core.Path.{refl}
-use Prim.Native.Nat.{◌<◌, ◌-◌}
+use Prim.Native.Nat.{◌<◌}
 use native.Mathlib.Omega.{arith}
 use lib.ListN.{length}
 use Rattle.words.specs.Words.{words, words_length}

@@ -2,7 +2,7 @@
 use Rattle.listing.specs.declared.Made.{Made}
 use mathlib.Core.Path.{refl, ap, ◌∙◌}
 use mathlib.Core.List.{List, [], ◌++◌}
-use Prim.Native.Nat.{ℕ, ◌-◌, ◌+◌}
+use Prim.Native.Nat.{ℕ}
 use native.Mathlib.Omega.{arith}
 use Rattle.records.specs.Layout.{image_of}
 use Rattle.texts.specs.Put.{then, nothing, reads}

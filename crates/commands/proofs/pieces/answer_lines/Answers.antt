@@ -1,6 +1,6 @@
 -- `pieces::answer_lines` meets its contract.
 use mathlib.Core.Path.{refl}
-use Prim.Native.Nat.{◌-◌, ◌+◌}
+use Prim.Native.Nat.{◌+◌}
 use native.Mathlib.Omega.{arith}
 use lib.ListN.{length}
 use Rattle.commands.specs.Pieces.{part, part_none, part_line, no_end_part, fed_none, fed_more, stopped_none, stopped_more}

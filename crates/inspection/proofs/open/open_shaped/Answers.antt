@@ -1,6 +1,5 @@
 -- `inspection::open::open_shaped` meets its contract. Assumes nothing.
 use native.Mathlib.Omega.{arith}
-use Rattle.words.specs.Words.{words}
 use Rattle.inspection.specs.Room.{shaped, image_words}
 use Rattle.inspection.specs.Tests.{top_ok}
 use Rattle.inspection.specs.Opening.{open_shaped}

@@ -1,7 +1,6 @@
 -- `listing::step::step` meets its contract.
 use mathlib.Core.Path.{◌≡◌, refl, sym, ap, ◌∙◌}
 use native.Mathlib.Omega.{arith}
-use Prim.Native.Nat.{◌-◌}
 use Rattle.words.specs.Words.{words}
 use Rattle.records.specs.Layout.{image_of}
 use Rattle.listing.specs.Step.{reached_at, pop_to}
@@ -45,14 +44,14 @@ pub returns : goal.returns
 returns c =
     let last = opens_last c.args.back c.in-Go.h (words c.args.img.now) c.args.s c.loop-wait.places c.loop-wait.count c.loop-wait.i c.loop-wait.came c.loop-wait.invariant.1 in
     let whole : reached_at c.match-open_turn.reached c.loop-wait.places c.loop-wait.count c.loop-wait.i ≡ pop_to c.args.back c.in-Go.h (words c.args.img.now) c.args.s =
-        elim c.match-open_turn.branch [
-          in-Came w ↦ rw w.reached-is (last _ (sym c.open_turn.ensures ∙ w.in-Came.is) _ (λ go. refl))
-        | in-Spoiled w ↦ rw w.reached-is (last _ (sym c.open_turn.ensures ∙ w.in-Spoiled.is) _ (λ go. refl))
-        ] in
+    elim c.match-open_turn.branch [
+      | in-Came w ↦ rw w.reached-is (last _ (sym c.open_turn.ensures ∙ w.in-Came.is) _ (λ go. refl))
+      | in-Spoiled w ↦ rw w.reached-is (last _ (sym c.open_turn.ensures ∙ w.in-Spoiled.is) _ (λ go. refl))
+    ] in
     let k = c.given-g.result.moves in
     let ends = finished c.args.back c.in-Go.h (words c.args.img.now) c.args.s c.loop-wait.places c.loop-wait.count c.loop-wait.i c.match-open_turn.reached c.args.n c.args.other whole c.given-g.result c.given-g.ensures c.if-not-g.places c.if-not-g.count in
     elim c.if-not-g.branch [
-      then-not-g w ↦ ends (w.places-is ∙ kept_back k c.loop-wait.places _ w.if-not-g.true) (w.count-is ∙ kept_back k c.loop-wait.count _ w.if-not-g.true)
-    | else-not-g w ↦ ends (w.places-is ∙ kept_on k _ c.args.s.places w.if-not-g.false) (w.count-is ∙ kept_on k _ c.args.s.count w.if-not-g.false)
+      | then-not-g w ↦ ends (w.places-is ∙ kept_back k c.loop-wait.places _ w.if-not-g.true) (w.count-is ∙ kept_back k c.loop-wait.count _ w.if-not-g.true)
+      | else-not-g w ↦ ends (w.places-is ∙ kept_on k _ c.args.s.places w.if-not-g.false) (w.count-is ∙ kept_on k _ c.args.s.count w.if-not-g.false)
     ]
     ∙ admit_moved_lem c.args.m c.args.n c.args.img.now c.args.ended c.args.held c.in-Go.h c.args.back c.args.s c.args.other c.loop-wait.invariant.0

@@ -2,7 +2,6 @@
 use mathlib.Core.Path.{ap}
 use Prim.Native.Nat.{ℕ}
 use mathlib.Core.Path.{◌≡◌, refl, ◌∙◌}
-use Prim.Native.Nat.{◌-◌}
 use native.Mathlib.Omega.{arith}
 use Rattle.texts.specs.Digits.{digits_at, value_at, digits_at_more, value_at_more, value_room}
 use Rattle.texts.specs.Lines.{word_at}
