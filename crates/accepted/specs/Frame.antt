@@ -1,7 +1,6 @@
 -- What the rules of an image depend on: its header, its nodes, its value records and its unused words. What a row of stores leaves of these keeps its rules.
 use Rattle.std.specs.Prelude.{◌≡◌, refl, List, [], ◌∷◌, ◌≢◌, ℕ, ◌+◌, ◌-◌, ◌*◌, ◌≤◌, ◌<◌}
 use Rattle.std.proofs.Common.{ap, subst, ◌∙◌, inl, inr, ⊎_elim, arith}
-use Rattle.std.proofs.Math.Option.{some}
 use Rattle.words.specs.Zeros.{Zeros}
 use Rattle.node_allocator.specs.Layout.{node_at, value_at}
 use Rattle.records.specs.declared.Header.{Header}

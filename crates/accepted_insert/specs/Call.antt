@@ -17,7 +17,7 @@ use Rattle.records.specs.Records.{header_of, node_of, value_record_of}
 use Rattle.records.specs.Writes.{live_record, set_value}
 use Rattle.inspection.specs.Opening.{open_of}
 use Rattle.insert.specs.declared.Plan.{Plan}
-use Rattle.insert.specs.declared.Plan.TheVariants.{First, Replace, Split, Refused}
+use Rattle.insert.specs.declared.Plan.TheVariants.{First, Replace, Split}
 use Rattle.insert.specs.Steps.{plan_image, plan_place, opened_plan, insert_of, insert_image}
 use Rattle.lookup.specs.Get.{addr_of}
 use Rattle.lists.specs.Entries.{Rising, find, find_all, is_some, enter, enter_held}

@@ -28,7 +28,7 @@ use Rattle.accepted.specs.Held.{list_used}
 use Rattle.accepted.specs.Frame.{chain_range}
 use Rattle.accepted.specs.Apart.{live_not_free}
 use Rattle.trees.specs.Map.{list_of}
-use Rattle.accepted_insert.specs.Arenas.{Part, behind, taken_from, bump_most, size_taken, head_most, head_used, not_head, behind_other, part_taken, counts_taken, FreeNodeOf, next_node_of, FreeValueOf, next_value_of, node_part, value_part, node_link, value_link}
+use Rattle.accepted_insert.specs.Arenas.{Part, behind, taken_from, size_taken, head_used, not_head, behind_other, part_taken, counts_taken, FreeNodeOf, next_node_of, FreeValueOf, next_value_of, node_part, value_part, node_link, value_link}
 use Rattle.accepted_insert.specs.Planned.{node_room}
 
 pub part_fits : {c : Counts} {limit : ℕ} {Free : ℕ → Type 0} {next : ℕ → ℕ} {xs : List ℕ} → Part c limit Free next xs

@@ -24,7 +24,7 @@ use Rattle.lists.specs.Lists.{All, all_both}
 use Rattle.lists.specs.Entries.{find, is_some, enter}
 use Rattle.lists.specs.Machine.{FitsValue}
 use Rattle.trees.specs.Keys.{shared, bit, at_most}
-use Rattle.trees.specs.Tree.{Tree, leaf, top, key_of, entries, Ordered}
+use Rattle.trees.specs.Tree.{Tree, top, key_of, entries, Ordered}
 use Rattle.trees.specs.Nodes.{In, Child, in_top, in_child}
 use Rattle.trees.specs.Lookup.{lookup, value_of}
 use Rattle.trees.proofs.Lookup.{lookup_find}

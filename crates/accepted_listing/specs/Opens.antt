@@ -13,7 +13,6 @@ use Rattle.records.specs.declared.NodeIndex.{NodeIndex}
 use Rattle.records.specs.Records.{node_of, leaf_node, inner_node}
 use Rattle.inspection.specs.declared.Visited.{Visited}
 use Rattle.inspection.specs.declared.Visited.TheVariants as visited
-use Rattle.inspection.specs.Tests.{node_ok}
 use Rattle.inspection.specs.Visit.{visit_of, kind_of}
 use Rattle.listing.specs.declared.Reached.{Reached}
 use Rattle.listing.specs.Step.{near_of, far_of, open_turn, open_to}

@@ -27,8 +27,7 @@ pub part_children : (i : ℕ) (key : Key) (p : ℕ) (l r t : Tree) → Part (inn
 part_children i key p l r (leaf j a v) e = let z : ◌≡◌ {A = ℕ} 0 1 = cc in absurd (omega arith)
 part_children i key p l r (inner j a q x y) (inl e) =
     let left : l ≡ x = cc in
-    let right : r ≡ y = cc in
-    (
+    let right : r ≡ y = cc in (
       inr (inl (subst (λ (u : Tree). Part u x) (sym left) (part_whole x))),
       inr (inr (subst (λ (u : Tree). Part u y) (sym right) (part_whole y))),
     )

@@ -24,7 +24,7 @@ use Rattle.listing.specs.Position.{no_nodes, empty_stack, root_stack, both_ends,
 use Rattle.listing.specs.Step.{pop_to, live_moved, leaf_moved, opened_moved, moved_of, near_end, far_end, with_near, opened_step, step_of}
 use Rattle.lists.specs.Lists.{All, all_parts}
 use Rattle.lists.specs.Answers.{entry_from}
-use Rattle.trees.specs.Tree.{Tree, leaf, inner, entries, entries_some}
+use Rattle.trees.specs.Tree.{Tree, leaf, inner, entries}
 use Rattle.trees.proofs.Paths.{depth_bound}
 use Rattle.trees.specs.Map.{Map, OrderedMap}
 use Rattle.trees.specs.Values.{Entry}
@@ -37,7 +37,7 @@ use Rattle.accepted.specs.Accepted.{Accepted, HoldsMap, value_at_record}
 use Rattle.accepted.specs.Held.{accepted_clean, form_passes}
 use Rattle.accepted.proofs.Opens.{accepted_opens}
 use Rattle.accepted.specs.Tests.{shape_passes, live_passes}
-use Rattle.accepted_lookup.specs.Answers.{nodes_entries, size_some}
+use Rattle.accepted_lookup.specs.Answers.{size_some}
 use Rattle.accepted_lookup.specs.Descents.{at}
 use Rattle.accepted_listing.specs.Parts.{PartOf, HeldPart, part_whole, map_children, map_entries, map_held, Named}
 use Rattle.accepted_listing.specs.Opens.{Reaches, opens}

@@ -1,5 +1,5 @@
 -- A value write on an accepted image keeps the tree, and changes the value of its key in the whole list and in every segment of it alike.
-use Rattle.std.specs.Prelude.{◌≡◌, refl, List, [], ◌∷◌, map, Bool, true, false, cond, ℕ, ◌+◌, ◌≤◌, ◌<◌}
+use Rattle.std.specs.Prelude.{◌≡◌, refl, List, [], ◌∷◌, map, Bool, true, false, cond, ℕ, ◌≤◌, ◌<◌}
 use Rattle.std.proofs.Common.{sym, ap, ◌∙◌, arith, eqb-true, ne_eqb}
 use Rattle.std.proofs.Math.Path.{subst}
 use Rattle.std.proofs.Math.Option.{Option, none, some}
@@ -9,17 +9,16 @@ use Rattle.records.specs.declared.Value.{Value}
 use Rattle.records.specs.Records.{header_of, value_record_of}
 use Rattle.lookup.specs.declared.Target.{Target}
 use Rattle.lookup.specs.Get.{target_image, write_image}
-use Rattle.lists.specs.Lists.{All, all_append, all_map}
+use Rattle.lists.specs.Lists.{All, all_map}
 use Rattle.lists.specs.Entries.{same, Before, Rising, find, find_all, unfound, update}
 use Rattle.lists.specs.Machine.{FitsValue}
-use Rattle.trees.specs.Tree.{Tree, leaf, inner, entries}
 use Rattle.trees.specs.Lookup.{value_of}
 use Rattle.trees.specs.Map.{Map, list_of, lookup_in}
 use Rattle.trees.proofs.Map.{map_ascending}
 use Rattle.trees.specs.Values.{Entry}
 use Rattle.accepted.specs.Rules.{Live}
 use Rattle.accepted.specs.Held.{list_used}
-use Rattle.accepted.specs.Accepted.{Accepted, HoldsMap, value_at_record}
+use Rattle.accepted.specs.Accepted.{Accepted, value_at_record}
 use Rattle.accepted_lookup.specs.Answers.{valued, listed, target_from, value_found, target_value, target_agrees}
 use Rattle.accepted_write.specs.Write.{value_accepted, value_tree, value_listed}
 use Rattle.accepted_listing.specs.Segments.{Segment, segment_whole, segment_all, segment_pairs}

@@ -2,7 +2,7 @@
 use Rattle.std.proofs.Math.Path.{◌≡◌, refl, sym, ap}
 use Rattle.std.proofs.Common.{subst, ◌∙◌, arith, pos_of_ne-zero}
 use mathlib.Core.List.{List, [], ◌∷◌}
-use Rattle.std.specs.Prelude.{◌≢◌, Bool, ℕ, ◌-◌, ◌≤◌, ◌<◌}
+use Rattle.std.specs.Prelude.{◌≢◌, Bool, ℕ, ◌≤◌, ◌<◌}
 use Rattle.std.proofs.Math.Bool.{true, false, cond}
 use Rattle.std.proofs.Math.Option.{none, some}
 use Rattle.std.proofs.Math.Decide.{ℕ_discrete}
@@ -14,7 +14,7 @@ use Rattle.records.specs.declared.ValueRecord.{ValueRecord}
 use Rattle.records.specs.Records.{header_of, node_of, value_record_of}
 use Rattle.records.specs.Writes.{live_record, set_value}
 use Rattle.lists.specs.Lists.{all_map, all_both}
-use Rattle.lists.specs.Entries.{same, find, find_all, held, update}
+use Rattle.lists.specs.Entries.{same, find, find_all, update}
 use Rattle.lists.specs.Machine.{FitsValue}
 use Rattle.trees.specs.Map.{Map, list_of}
 use Rattle.trees.specs.Values.{Numbered}

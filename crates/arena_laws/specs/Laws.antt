@@ -1,21 +1,20 @@
 -- The laws of the arena's steps, for whoever stands above: what each leaves of the header, of a register and of every other word. Both arenas have them by one proof.
-use Rattle.std.specs.Prelude.{◌≡◌, ◌≢◌, ◌⊎◌, Bool, cond, eqb}
+use Rattle.std.specs.Prelude.{◌≡◌, ◌≢◌, ◌⊎◌, Bool, cond}
 use Rattle.std.proofs.Math.Path.{refl}
-use Rattle.std.proofs.Common.{sym, ap, ◌∙◌, inl, inr, arith, eq-eqb, ne_eqb}
+use Rattle.std.proofs.Common.{◌∙◌, arith}
 use mathlib.Core.List.{List}
 use Rattle.std.proofs.Math.Logic.{⊎_elim}
 use Rattle.std.proofs.Math.Bool.{true, false}
-use Prim.Native.Nat.{ℕ, ◌+◌, ◌%◌, ◌^◌, ◌≤◌, ◌<◌}
+use Prim.Native.Nat.{ℕ, ◌+◌, ◌≤◌, ◌<◌}
 use Rattle.std.proofs.Math.ListN.{length, get_or, set, length-set}
 use Rattle.std.proofs.Math.Seq.{get_or-set_same, get_or-set_other}
 use Rattle.words.specs.Wide.{wide_at, set_wide, wide_stored, set_wide_length, set_wide_others}
 use Rattle.node_allocator.specs.declared.Arena.{Arena}
 use Rattle.node_allocator.specs.declared.Counts.{Counts}
 use Rattle.node_allocator.specs.declared.Register.{Register}
-use Rattle.node_allocator.specs.declared.Register.TheVariants.{Left}
 use Rattle.node_allocator.specs.Layout.{header_at, record_at, register_of, inside}
 use Rattle.node_allocator.specs.Steps.{counts_of, set_counts, get_register, set_register}
-use Rattle.arena_laws.specs.Places.{Inside, inside_is, Lies, register_small, width_some, past_header, within, header_within}
+use Rattle.arena_laws.specs.Places.{Inside, inside_is, Lies, register_small, width_some, past_header, within}
 
 -- a word that no step of an arena changes, but for register 0 of the record that it takes or frees
 abbrev pub Outside : Arena → ℕ → Type 0

@@ -1,6 +1,6 @@
 -- Where the words of an arena stand to each other: the header before the records, no two records at one place, and all of them inside the image. What goes by cases
 -- on the two arenas stands here alone; the laws of the steps are stated once over both.
-use Rattle.std.specs.Prelude.{◌≡◌, refl, List, ◌≢◌, ◌↔◌, Bool, true, false, ◌&&◌, ℕ, ◌+◌, ◌-◌, ◌*◌, ◌≤◌, ◌<◌, length, leb}
+use Rattle.std.specs.Prelude.{◌≡◌, ◌≢◌, true, ℕ, ◌+◌, ◌≤◌, ◌<◌, leb}
 use Rattle.std.proofs.Common.{arith, leb-true, le-leb}
 use Rattle.words.specs.Tests.{and_l, and_r}
 use Rattle.node_allocator.specs.declared.Arena.{Arena}

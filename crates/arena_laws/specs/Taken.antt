@@ -1,5 +1,5 @@
 -- What adding and removing a record leaves, with the header c that the caller knows: the header afterwards, register 0 of that record, and every other word.
-use Rattle.std.specs.Prelude.{◌≡◌, List, ◌≢◌, false, ℕ, ◌+◌, ◌%◌, ◌^◌, ◌<◌, eqb}
+use Rattle.std.specs.Prelude.{◌≡◌, List, ◌≢◌, false, ℕ, ◌+◌, ◌%◌, ◌^◌, ◌<◌}
 use Rattle.std.proofs.Math.Path.{refl}
 use Rattle.std.proofs.Common.{sym, ap, ◌∙◌, inr}
 use native.Mathlib.Omega.{arith}
@@ -9,8 +9,8 @@ use Rattle.words.specs.Tests.{either_way}
 use Rattle.node_allocator.specs.declared.Arena.{Arena}
 use Rattle.node_allocator.specs.declared.Counts.{Counts}
 use Rattle.node_allocator.specs.declared.Register.TheVariants.{Left}
-use Rattle.node_allocator.specs.Layout.{header_at, record_at, inside}
-use Rattle.node_allocator.specs.Steps.{counts_of, set_counts, get_register, set_register, clear_register, taken, add_counts, add_image, freed, remove_counts, remove_image}
+use Rattle.node_allocator.specs.Layout.{record_at, inside}
+use Rattle.node_allocator.specs.Steps.{counts_of, set_counts, get_register, set_register, taken, add_counts, add_image, freed, remove_counts, remove_image}
 use Rattle.arena_laws.specs.Places.{Inside, inside_is, Lies, past_header, header_within}
 use Rattle.arena_laws.specs.Laws.{Outside, register_length, register_others, register_stored, register_word, counts_length, counts_others, counts_stored}
 

@@ -1,13 +1,13 @@
 -- The words of an accepted image determine its tree, and so its list: two proofs that it is accepted cannot speak of two lists, and no image is in two states.
-use Rattle.std.specs.Prelude.{◌≡◌, List, ℕ, ◌≤◌}
+use Rattle.std.specs.Prelude.{◌≡◌, List, ℕ}
 use Rattle.std.proofs.Math.Path.{refl, sym, ap}
 use Rattle.std.proofs.Common.{◌∙◌, arith}
 use Rattle.std.proofs.Math.Option.{none, some}
 use Rattle.records.specs.Records.{header_of}
 use Rattle.lists.specs.Machine.{Entries, State, blank, holding}
-use Rattle.trees.specs.Tree.{Tree, leaf, inner}
+use Rattle.trees.specs.Tree.{Tree}
 use Rattle.trees.specs.Map.{Map, list_of}
-use Rattle.accepted.specs.Accepted.{Accepted, HoldsMap, nodes_in}
+use Rattle.accepted.specs.Accepted.{Accepted, HoldsMap}
 use Rattle.accepted.specs.Held.{some_nodes, unique}
 use Rattle.accepted_lookup.specs.Answers.{valued, listed}
 use Rattle.histories.specs.Blank.{never_blank}

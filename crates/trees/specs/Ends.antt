@@ -1,7 +1,7 @@
 -- Laws of the two ends of a list (`list_end`, `rest_of`: crate `lists`, Entries). A side is a Bool: false is the left, the front; true is the right, the back. What holds at both ends is said once, over the side.
 use Rattle.std.specs.Prelude.{◌≡◌, refl, ◌⊎◌, Bool, true, false, not, List, [], ◌∷◌, ◌++◌}
 use Rattle.std.proofs.Common.{ap, sym, subst, ◌∙◌, inl, inr, append-nil, append_assoc}
-use Rattle.std.proofs.Math.Option.{Option, some, none-ne-some, some-injective}
+use Rattle.std.proofs.Math.Option.{some, none-ne-some, some-injective}
 use Rattle.lists.specs.Lists.{All, Pairs, Across, all_parts, pairs_parts, across_turned}
 use Rattle.lists.specs.Entries.{last_of, list_end, rest_of}
 
