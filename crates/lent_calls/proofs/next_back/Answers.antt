@@ -1,0 +1,6 @@
+-- `next_back` meets its contract: what it calls says so.
+use Rattle.lent.specs.Listings.{step_ran}
+use Rattle.lent_calls.proofs.next_back.Goals as goal
+
+pub returns : goal.returns
+returns c = step_ran c.next_back.ensures
