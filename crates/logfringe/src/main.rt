@@ -1,9 +1,9 @@
 // The command program: lines from standard input, their answers on standard output. It reads in large pieces, and writes the answers to what it has read before it waits for more.
 //
-// What a line asks and what it is answered is `commands`. A write that fails ends the program; a read that fails ends the input.
+// What a line asks and what it is answered is `commands`. A write that fails ends the program; a read that fails ends the input. Either way `main` ends with that error.
 #![tactic(auto)]
 
-ghost use Rattle.std.specs.Prelude.{◌≡◌, true, ℕ, ◌+◌, ◌<◌, ◌≤◌, length, get_or, take};
+ghost use Rattle.std.specs.Prelude.{◌≡◌, ℕ, ◌+◌, ◌<◌, ◌≤◌, length, get_or, take, IfOk, OnOk};
 ghost use Rattle.records.specs.Layout.{image_of};
 ghost use Rattle.inspection.specs.Outcome.{Leaves};
 ghost use Rattle.commands.specs.Pieces.{PieceLeaves, part, ending_image, ending_kept};
@@ -11,29 +11,36 @@ ghost use Rattle.commands.specs.Pieces.{PieceLeaves, part, ending_image, ending_
 use commands::pieces::{answer_lines, finish, keep};
 use lookup::start::start;
 use records::Done;
+use std::io::{self, Read};
 
-// Where a piece ends: the first byte of the line that has begun, whether it is too long already, and whether every answer was written.
+// Where a piece ends: the first byte of the line that has begun, whether it is too long already, and whether every answer was written, or the error of the write that failed.
 #[derive(Clone, Copy)]
 struct Answered {
     from: usize,
     long: bool,
-    written: bool,
+    written: io::Result<()>,
 }
 
 // One read; 0 at the end of the input.
-fn read_part(buf: &mut [u8]) -> usize
-    ensures { result ≤ length buf.old }
+fn read_part(input: &mut impl Read, buf: &mut [u8]) -> io::Result<usize>
+    ensures { IfOk result (λ got. got ≤ length buf.old) }
 {
-    let got = libc::read(0, buf);
-    io::count(got, buf)
+    input.read(buf)
 }
 
 // Answers a piece, and writes the answers: whenever the output is full, and at the end. Then no LF is left.
-fn answer_piece(buf: &[u8], end: usize, long: bool, img: &mut [u8], out: &mut [u8]) -> Answered
+fn answer_piece(
+    rt: &impl Print,
+    buf: &[u8],
+    end: usize,
+    long: bool,
+    img: &mut [u8],
+    out: &mut [u8],
+) -> Answered
     requires { (end ≤ length buf.now) × (end ≤ 65536) × (16911 ≤ length out.old) }
     ensures within { result.from ≤ end }
     ensures image { PieceLeaves long (part 0 result.from buf.now) img.old img.new result.long }
-    ensures left { result.written ≡ true → (k : ℕ) → result.from ≤ k → k < end → get_or buf.now k 0 ≡ 10 → ⊥ }
+    ensures left { OnOk result.written ((k : ℕ) → result.from ≤ k → k < end → get_or buf.now k 0 ≡ 10 → ⊥) }
 {
     let mut from: usize = 0;
     let mut over = long;
@@ -43,11 +50,11 @@ fn answer_piece(buf: &[u8], end: usize, long: bool, img: &mut [u8], out: &mut [u
         from = t.from;
         over = t.long;
         let at = t.at;
-        if !io::write_all(1, &out[0..at]) {
+        if let Err(e) = rt.write_all(&out[0..at]) {
             return Answered {
                 from,
                 long: over,
-                written: false,
+                written: Err(e),
             };
         }
         if 16911 <= out.len() - at {
@@ -58,45 +65,62 @@ fn answer_piece(buf: &[u8], end: usize, long: bool, img: &mut [u8], out: &mut [u
     Answered {
         from,
         long: over,
-        written: true,
+        written: Ok(()),
     }
 }
 
 // The input has ended: a last line without LF.
-fn answer_last(buf: &[u8], have: usize, long: bool, img: &mut [u8], out: &mut [u8])
+fn answer_last(
+    rt: &impl Print,
+    buf: &[u8],
+    have: usize,
+    long: bool,
+    img: &mut [u8],
+    out: &mut [u8],
+) -> io::Result<()>
     requires { (have ≤ length buf.now) × (16911 ≤ length out.old) }
     ensures { Leaves img.old img.new (ending_kept 256 512 long (image_of img.old) (take have buf.now)) (ending_image 256 512 long (image_of img.old) (take have buf.now)) }
 {
     let at = finish(buf, have, long, img, out, 0);
-    io::write_all(1, &out[0..at]);
+    rt.write_all(&out[0..at])
 }
 
 // The whole input, on an image that start has made.
-fn answer_input(buf: &mut [u8], img: &mut [u8], out: &mut [u8])
+fn answer_input(
+    rt: &impl Print,
+    input: &mut impl Read,
+    buf: &mut [u8],
+    img: &mut [u8],
+    out: &mut [u8],
+) -> io::Result<()>
     requires { (80 ≤ length buf.old) × (length buf.old ≤ 65536) × (16911 ≤ length out.old) }
 {
     let mut have: usize = 0;
     let mut long = false;
     let mut turns = u64::MAX;
     while 0 < turns {
-        let got = read_part(&mut buf[have..]);
+        let got = match read_part(input, &mut buf[have..]) {
+            Ok(got) => got,
+            Err(e) => {
+                answer_last(rt, buf, have, long, img, out)?;
+                return Err(e);
+            }
+        };
         if got == 0 {
-            answer_last(buf, have, long, img, out);
-            return;
+            return answer_last(rt, buf, have, long, img, out);
         }
         let end = have + got;
-        let a = answer_piece(buf, end, long, img, out);
-        if !a.written {
-            return;
-        }
+        let a = answer_piece(rt, buf, end, long, img, out);
+        a.written?;
         let kept = keep(buf, a.from, end, a.long);
         have = kept.have;
         long = kept.long;
         turns -= 1;
     }
+    Ok(())
 }
 
-fn main() {
+fn main(rt: HostRuntime) -> io::Result<()> {
     let mut image = [0u8; 32816];
     let img: &mut [u8] = &mut image;
     let mut input = [0u8; 65536];
@@ -104,7 +128,7 @@ fn main() {
     let mut output = [0u8; 65536];
     let out: &mut [u8] = &mut output;
     match start(img, 256, 512) {
-        Done::Yes => answer_input(buf, img, out),
-        Done::Refused(r) => {}
+        Done::Yes => answer_input(&rt, &mut rt.stdin(), buf, img, out),
+        Done::Refused(_) => Ok(()),
     }
 }

@@ -1,5 +1,5 @@
 -- The starred bench examples of the rules, one table under one statement: each line is computed from the calls' definitions, beginning with blank memory.
-use Rattle.std.specs.Prelude.{◌≡◌, refl, List, [], ◌∷◌, Bool, true, false, ℕ, zero, suc, ◌+◌, ◌^◌, length, set, replicate}
+use Rattle.std.specs.Prelude.{◌≡◌, refl, List, [], ◌∷◌, Bool, true, false, ℕ, ◌+◌, ◌^◌, set, replicate}
 use Rattle.words.specs.Wide.{wide_at, set_wide}
 use Rattle.words.specs.Zeros.{zeros_at}
 use Rattle.keys.specs.declared.Key.{Key}
@@ -16,7 +16,7 @@ use Rattle.records.specs.declared.Place.TheVariants as place
 use Rattle.records.specs.declared.Refusal.TheVariants as no
 use Rattle.records.specs.declared.Value.{Value}
 use Rattle.records.specs.Layout.{image_length}
-use Rattle.records.specs.Records.{header_of, front_of, spare_of, node_of, padding_of, record_from, value_record_of}
+use Rattle.records.specs.Records.{header_of, front_of, spare_of, node_of, padding_of, record_from}
 use Rattle.inspection.specs.Tests.{arena_ok, counts_ok, header_ok, top_ok, padding_ok, form_ok, node_ok, root_ok, kids_ok, live_value, free_node, free_value}
 use Rattle.inspection.specs.Visit.{visit_of, first_of, live_of}
 use Rattle.inspection.specs.Opening.{open_shaped, open_of, blank_of}

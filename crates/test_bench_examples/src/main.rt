@@ -1,8 +1,11 @@
 // The bench examples of the rules B that are run: the leading equal bits, the limits of M and N, images of other lengths, and the path of 129 nodes. The starred ones are proved: specs/Table.antt.
 #![tactic(auto)]
 
+ghost use Rattle.std.specs.Prelude.{◌≡◌, length};
+
 use keys::{Key, leading_equal};
 use records::{Done, Place, Value, number};
+use std::io;
 
 fn answer(a: Done) -> u64 {
     match a {
@@ -33,10 +36,9 @@ fn power(k: u32) -> Key {
     key(0, 0)
 }
 
-fn say(text: &[u8], count: u64) {
-    io::write_all(1, text);
-    io::print_decimal(1, count);
-    io::write_all(1, b"\n");
+fn say(rt: &impl Print, text: &[u8], count: u64) -> io::Result<()> {
+    rt.write_all(text)?;
+    println!(rt; "{count}")
 }
 
 // What start answers on so many blank words of the memory.
@@ -97,26 +99,39 @@ fn deepest_path(img: &mut [u8]) -> u64 {
     0
 }
 
-fn main() {
-    let mut space = [0u8; 524368];
+// The memory, blank.
+fn blank() -> [u8; 524368]
+    ensures { 524368 ≡ length result }
+{
+    [0; 524368]
+}
+
+fn main(rt: HostRuntime) -> io::Result<()> {
+    let mut space = blank();
     let img: &mut [u8] = &mut space;
-    say(b"A, B: ", leading_equal(power(127), key(0, 0)));
+    say(&rt, b"A, B: ", leading_equal(power(127), key(0, 0)))?;
     say(
+        &rt,
         b"high word 1 against 0: ",
         leading_equal(key(1, 0), key(0, 0)),
-    );
+    )?;
     say(
+        &rt,
         b"low word 2^63 against 0: ",
         leading_equal(power(63), key(0, 0)),
-    );
-    say(b"B, C: ", leading_equal(key(0, 0), key(0, 1)));
-    say(b"139 words: ", started(img, 139, 4, 8));
-    say(b"140 words: ", started(img, 140, 4, 8));
-    say(b"141 words: ", started(img, 141, 4, 8));
-    say(b"M 0: ", started(img, 108, 0, 8));
-    say(b"M 4097: ", started(img, 131092, 4097, 8192));
-    say(b"M 4 with N 7: ", started(img, 128, 4, 7));
-    say(b"M 4096 with N 8192: ", started(img, 131084, 4096, 8192));
-    say(b"M 256 with N 512: ", started(img, 8204, 256, 512));
-    say(b"B's path: ", deepest_path(img));
+    )?;
+    say(&rt, b"B, C: ", leading_equal(key(0, 0), key(0, 1)))?;
+    say(&rt, b"139 words: ", started(img, 139, 4, 8))?;
+    say(&rt, b"140 words: ", started(img, 140, 4, 8))?;
+    say(&rt, b"141 words: ", started(img, 141, 4, 8))?;
+    say(&rt, b"M 0: ", started(img, 108, 0, 8))?;
+    say(&rt, b"M 4097: ", started(img, 131092, 4097, 8192))?;
+    say(&rt, b"M 4 with N 7: ", started(img, 128, 4, 7))?;
+    say(
+        &rt,
+        b"M 4096 with N 8192: ",
+        started(img, 131084, 4096, 8192),
+    )?;
+    say(&rt, b"M 256 with N 512: ", started(img, 8204, 256, 512))?;
+    say(&rt, b"B's path: ", deepest_path(img))
 }

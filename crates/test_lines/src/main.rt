@@ -1,8 +1,8 @@
 // The command program's lines, cut at every place: standard input is answered as one piece, and then again in pieces of each length from 1 to 200 bytes. It writes the answers to the whole,
-// and how many of the other runs answer the same bytes.
+// and how many of the other runs answer the same bytes. A read or a write that fails ends it with that error.
 #![tactic(auto)]
 
-ghost use Rattle.std.specs.Prelude.{◌≡◌, ℕ, ◌+◌, ◌<◌, ◌≤◌, true, false, [], length, take, replicate};
+ghost use Rattle.std.specs.Prelude.{◌≡◌, ℕ, ◌+◌, ◌<◌, ◌≤◌, true, false, [], length, take, replicate, IfOk};
 ghost use Rattle.records.specs.Layout.{image_of};
 ghost use Rattle.inspection.specs.Outcome.{Leaves};
 ghost use Rattle.lookup.specs.Start.{start_image};
@@ -11,6 +11,7 @@ ghost use Rattle.commands.specs.Session.{fed_text, fed_image, fed_kept, input_te
 
 use commands::pieces::{answer_lines, finish, keep};
 use lookup::start::start;
+use std::io::{self, Read};
 
 // The answers to a text: how many bytes they are, and whether the whole text is answered.
 #[derive(Clone, Copy)]
@@ -42,8 +43,8 @@ fn feed(text: &[u8], size: usize, img: &mut [u8], buf: &mut [u8], out: &mut [u8]
     while from < text.len() {
         let many = piece(size, text.len() - from);
         let until = from + many;
-        bytes::copy(&text[from..until], &mut buf[have..]);
         let end = have + many;
+        buf[have..end].copy_from_slice(&text[from..until]);
         let t = answer_lines(buf, 0, end, long, img, out, at);
         at = t.at;
         if out.len() - at < 16911 {
@@ -85,7 +86,7 @@ fn agrees(
 {
     let r = run(text, size, img, buf, out);
     let many = r.at;
-    r.whole && check::same(first, &out[0..many])
+    r.whole && first == &out[0..many]
 }
 
 // How many of the lengths from 1 to 200 agree.
@@ -104,18 +105,40 @@ fn count(text: &[u8], img: &mut [u8], buf: &mut [u8], first: &[u8], out: &mut [u
 }
 
 // The answers to the whole, and how many lengths agree.
-fn report(text: &[u8], n: usize, img: &mut [u8], buf: &mut [u8], first: &mut [u8], out: &mut [u8])
+fn report(
+    rt: &impl Print,
+    text: &[u8],
+    n: usize,
+    img: &mut [u8],
+    buf: &mut [u8],
+    first: &mut [u8],
+    out: &mut [u8],
+) -> io::Result<()>
     requires { (n ≤ length text.now) × (60080 ≤ length buf.old) × (16911 ≤ length first.old) × (16911 ≤ length out.old) }
 {
     let r = run(&text[0..n], 60000, img, buf, first);
     let many = r.at;
-    io::write_all(1, &first[0..many]);
+    rt.write_all(&first[0..many])?;
     let agreed = count(&text[0..n], img, buf, &first[0..many], out);
-    io::print_decimal(1, agreed);
-    io::write_all(1, b" of 200 piece lengths agree\n");
+    println!(rt; "{agreed} of 200 piece lengths agree")
 }
 
-fn main() {
+// Reads until the buffer is full or the input ends, and says how many bytes.
+fn read_full(input: &mut impl Read, buf: &mut [u8]) -> io::Result<usize>
+    ensures { IfOk result (λ n. n ≤ length buf.new) }
+{
+    let mut done: usize = 0;
+    while done < buf.len() {
+        let got = input.read(&mut buf[done..])?;
+        if got == 0 {
+            break;
+        }
+        done += got;
+    }
+    Ok(done)
+}
+
+fn main(rt: HostRuntime) -> io::Result<()> {
     let mut image = [0u8; 32816];
     let img: &mut [u8] = &mut image;
     let mut input = [0u8; 60000];
@@ -126,6 +149,6 @@ fn main() {
     let first: &mut [u8] = &mut whole;
     let mut output = [0u8; 65536];
     let out: &mut [u8] = &mut output;
-    let n = io::read_full(0, text);
-    report(text, n, img, buf, first, out);
+    let n = read_full(&mut rt.stdin(), text)?;
+    report(&rt, text, n, img, buf, first, out)
 }

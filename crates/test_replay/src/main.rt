@@ -1,4 +1,5 @@
 // Replays a recorded sample of the original's answers, from standard input, and compares each answer and a checksum of the image's words after each call. It writes how many calls agree and how many differ.
+// A read or a write that fails ends it with that error.
 //
 // A record is 24 words, lowest byte first: the call's letter as a number, M, N, the answer's number, the key (high, low), the value (two), the answer's results (four 64-bit numbers), the checksum, and two words over.
 // `oracle/compare` has the recorder.
@@ -6,6 +7,7 @@
 
 use keys::Key;
 use records::{Count, Done, Entry, Got, Place, Value, number};
+use std::io::{self, ErrorKind, Read};
 
 #[derive(Clone, Copy)]
 struct Outcome {
@@ -157,14 +159,26 @@ fn size(m: u32, n: u32) -> usize {
     0
 }
 
-fn say(agreed: u64, differed: u64) {
-    io::print_decimal(1, agreed);
-    io::write_all(1, b" calls agree, ");
-    io::print_decimal(1, differed);
-    io::write_all(1, b" differ\n");
+fn say(rt: &impl Print, agreed: u64, differed: u64) -> io::Result<()> {
+    println!(rt; "{agreed} calls agree, {differed} differ")
 }
 
-fn main() {
+// Whether a whole record was read: not where the input ends before.
+fn read_record(input: &mut impl Read, rec: &mut [u8]) -> io::Result<bool> {
+    match input.read_exact(rec) {
+        Ok(()) => Ok(true),
+        Err(e) => {
+            if e.kind() == ErrorKind::UnexpectedEof {
+                Ok(false)
+            } else {
+                Err(e)
+            }
+        }
+    }
+}
+
+fn main(rt: HostRuntime) -> io::Result<()> {
+    let mut input = rt.stdin();
     let mut space = [0u8; 1232];
     let img: &mut [u8] = &mut space;
     let mut read = [0u8; 96];
@@ -173,7 +187,7 @@ fn main() {
     let mut differed: u64 = 0;
     let mut k: u64 = 0;
     while k < 100000 {
-        if io::read_full(0, rec) < 96 {
+        if !read_record(&mut input, rec)? {
             break;
         }
         let end = size(words::word(rec, 1), words::word(rec, 2));
@@ -186,5 +200,5 @@ fn main() {
         }
         k += 1;
     }
-    say(agreed, differed);
+    say(&rt, agreed, differed)
 }
