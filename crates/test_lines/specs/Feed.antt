@@ -1,7 +1,7 @@
 -- A text that is fed piece by piece: each piece is copied behind what is held, the lines that end in it are answered, and what has begun is kept.
 use Rattle.std.specs.Prelude.{◌≡◌, ℕ, ◌+◌, ◌-◌, ◌%◌, ◌<◌, ◌≤◌, Bool, true, false, cond, List, [], ◌++◌, length, take, drop, replicate, ◌==◌, ◌≢◌, slice_index, refl}
-use Rattle.std.proofs.Common.{sym, ap, subst, ◌∙◌, arith, take-add, take_all, take_at, take-take, length-take-le}
-use Rattle.std.proofs.Math.Seq.{take-append-add}
+use Rattle.std.proofs.Common.{sym, ap, subst, ◌∙◌, append_assoc, arith, take-add, take_all, take_at, take-take, length-take-le}
+use Rattle.std.proofs.Math.Seq.{take-append-add, take-length}
 use Rattle.words.specs.Words.{words}
 use Rattle.records.specs.Layout.{image_of}
 use Rattle.inspection.specs.Outcome.{Leaves}
@@ -12,15 +12,18 @@ use Rattle.commands.specs.Session.{fed_text, fed_image, fed_kept, input_text, in
 use Rattle.commands.specs.Pieces.{Fed, part, part_front, kept_of, kept_buffer, ending_text, ending_image, ending_kept}
 use Rattle.commands.specs.Feeding.{Sofar, sofar_more, sofar_part, sofar_last}
 
--- the piece is copied behind what is held
-pub laid : (buf piece new behind : List ℕ) (have many : ℕ) → have ≤ length buf → length piece ≡ many → new ≡ piece
+-- the piece is copied behind what is held: `new` is the rest of the buffer with the piece at its front
+pub laid : (buf piece new rest behind : List ℕ) (have many : ℕ) → have ≤ length buf → length piece ≡ many → new ≡ take (length piece) piece ++ rest
     → part 0 (have + many) (take have buf ++ (new ++ behind)) ≡ take have buf ++ piece
-laid buf piece new behind have many h long e =
+laid buf piece new rest behind have many h long e =
     let held : length (take have buf) ≡ have = length-take-le have buf h in
     part_front (have + many) (take have buf ++ (new ++ behind))
     ∙ ap (λ (k : ℕ). take (k + many) (take have buf ++ (new ++ behind))) (sym held)
     ∙ take-append-add (take have buf) (new ++ behind) many
-    ∙ ap (λ (l : List ℕ). take have buf ++ l) (ap (λ (l : List ℕ). take many (l ++ behind)) e ∙ take_at piece behind many long)
+    ∙ ap (λ (l : List ℕ). take have buf ++ l)
+    (ap (λ (l : List ℕ). take many (l ++ behind)) (e ∙ ap (λ (l : List ℕ). l ++ rest) (take-length piece))
+    ∙ ap (take many) (append_assoc piece rest behind)
+    ∙ take_at piece (rest ++ behind) many long)
 
 module _ {before img₁ out out₁ buf : List ℕ} {have at : ℕ} {long : Bool} (text : List ℕ) (from many : ℕ) (fits : from + many ≤ length text)
     (x : Sofar (take from text) before img₁ out out₁ buf have long at) (wide : List ℕ) (is : part 0 (have + many) wide ≡ take have buf ++ part from (from + many) text) where
