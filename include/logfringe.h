@@ -1,6 +1,6 @@
 /* logfringe.h: lookup and the full check of a map from 128-bit keys to 16-byte values, on an image in your own memory.
  *
- * Link with libboard.a, which `rt staticlib board` writes to target/staticlib/. The archive is for x86-64 (System V calling
+ * Link with libboard.a, which `tools/archive board` writes to target/staticlib/. The archive is for x86-64 (System V calling
  * convention).
  *
  * WHAT IS PROVED, AND WHAT IS NOT
@@ -20,7 +20,7 @@
  *
  *   image    read in place, never written and never copied: it may lie in flash or in another write-protected memory.
  *            Its length is LOGFRINGE_IMAGE_BYTES(m, n), which is 48 + 48 * n + 32 * m; any other length is refused with 1
- *            [byte-length, lookup-numbers, check-numbers].
+ *            [byte_length, lookup_numbers, check_numbers].
  *   m, n     the image's capacity, 1 to 4096 values, and its node count, 2 * m to 8192. They are not stored in the image: pass those that
  *            it was made with.
  *   high,    the key's two 64-bit words: the key is high * 2^64 + low.
@@ -28,7 +28,7 @@
  *
  * WHAT COMES BACK
  *
- * One number. No second number and no other byte would fit the contract [looked-once, checked-once].
+ * One number. No second number and no other byte would fit the contract [looked_once, checked_once].
  */
 #ifndef LOGFRINGE_H
 #define LOGFRINGE_H
@@ -55,12 +55,12 @@ extern "C" {
 
 /* The value of a key.
  *
- * Answers 0, 1, 2 or 4, each when, and only then, its line above says so [lookup-numbers, get-numbers]. Shape comes first: an output of
+ * Answers 0, 1, 2 or 4, each when, and only then, its line above says so [lookup_numbers, get_numbers]. Shape comes first: an output of
  * fewer than 16 bytes is 1 even if the image is damaged too. Only the header and the records on the key's path are tested, so 0 or 4
  * does not say that the rest of the image is sound: logfringe_check does. At most 129 nodes are visited [rises, again].
  *
  *   after 0       the first 16 bytes of out are the value: its first 64-bit word, then its second, each with the lowest byte first
- *                 [output, value-words]
+ *                 [output, value_words]
  *   after 2 or 4  the first 16 bytes of out are zero [output]
  *   after 1       no byte of out is touched [output]
  *
@@ -73,10 +73,10 @@ uint32_t logfringe_get(const uint8_t *img, size_t img_len, uint32_t m, uint32_t 
 
 /* The full check: whether the header and every record of the image pass.
  *
- * Answers 0, 1 or 2 [check-numbers], and 0 exactly for the images that meet the rules [lent-exact]. After 0 the image is one ascending
+ * Answers 0, 1 or 2 [check_numbers], and 0 exactly for the images that meet the rules [lent_exact]. After 0 the image is one ascending
  * list of keys and values: as long as nobody changes it, lookups with the same m and n and an output of 16 bytes or more answer 0 or
- * 4, 0 with the value that the list has for the key, and 4 where it has none [after-the-check, found-or-absent].
- * The scratch has at least 4 * m bytes; what it holds before does not matter [check-numbers].
+ * 4, 0 with the value that the list has for the key, and 4 where it has none [after_the_check, found_or_absent].
+ * The scratch has at least 4 * m bytes; what it holds before does not matter [check_numbers].
  *
  *   after 0 or 2  the first 4 * m bytes of scratch are zero [logfringe_check]
  *   after 1       no byte of scratch is touched [logfringe_check]

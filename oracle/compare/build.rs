@@ -1,4 +1,4 @@
-//! Links the port's static library, which `rt staticlib bridge` writes.
+//! Links the port's static library, which `tools/archive bridge` writes.
 
 fn main() {
     let folder = format!("{}/../../target/staticlib", env!("CARGO_MANIFEST_DIR"));

@@ -1,6 +1,5 @@
 // A listing that holds the image it lists: thin functions over a struct of the lent image, the numbers M and N, and the position.
 // The work is done by `listing::step`, on the image and the position; each function here takes the struct apart and calls it.
-// A function that takes, makes or has a local of the struct is proved by hand; whoever calls `first_and_last` is covered again.
 #![tactic(auto)]
 
 ghost use Rattle.std.specs.Prelude.{◌≡◌, true, false};
@@ -88,7 +87,7 @@ pub fn first_and_last(image: &[u8], m: u32, n: u32) -> Ends
     Ends { first, last }
 }
 
-// Whether an image has a first entry. A caller of `first_and_last`, whose parameters are plain, needs no walk.
+// Whether an image has a first entry.
 pub fn has_entry(image: &[u8], m: u32, n: u32) -> bool
     ensures { result ≡ is_entry (held_step false (begun image.entry m n)).entry }
 {

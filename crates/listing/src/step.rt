@@ -75,6 +75,7 @@ pub fn list(img: &[u8], m: u32, n: u32) -> Made
 // ---- a step
 
 // Whether a step may pop a node: the shape, then the position, then the header; then whether there is a node to pop.
+#[tactic(auto, using(inspection::specs::Room::shaped_opens, inspection::specs::Room::shaped_shut), unfolding(crate::specs::Ends::admit_of, crate::specs::Ends::opened_admit))]
 fn admit(img: &[u8], m: u32, n: u32, ended: bool, count: u32, held: u32) -> Admitted
     ensures { result ≡ admit_of m n (image_of img.now) ended count held }
 {

@@ -1,6 +1,6 @@
 // A lent buffer of bytes, read and written as 32-bit words, lowest byte first: the image, the scratch and the outputs of the map.
 //
-// Every contract but that of `put` speaks of the buffer's words, `words (now ..)`, and of nothing else; `put` is told a
+// Every contract but that of `put` speaks of the buffer's words, `words bytes.now`, and of nothing else; `put` is told a
 // byte's place and speaks of bytes. Past the last word a read gives 0 and a store does nothing, so that no caller carries a
 // bound; `put`, `four_zeros` and the functions whose names end in `_in` test no place and ask the caller to know that it lies inside.
 #![tactic(auto)]
