@@ -3,7 +3,7 @@ ghost use Rattle.std.specs.Prelude.{◌≡◌, [], ◌∷◌, ◌++◌, ◌+◌,
 ghost use Rattle.texts.specs.Put.{Written};
 ghost use Rattle.texts.specs.Digits.{digits, hex_of, width_of, decimal_of};
 ghost use Rattle.texts.specs.Texts.{newline, pair_text, bad_text, end_text, value_text, entry_text, refusal_text};
-ghost use Rattle.texts.specs.Digits.{glyph as Digits·glyph};
+ghost use Rattle.texts.specs.Digits.{glyph as digit_glyph};
 
 use keys::Key;
 use records::{Refusal, Value, number};
@@ -44,7 +44,7 @@ fn put_line(out: &mut [u8], at: usize, a: u8, b: u8, c: u8, d: u8) -> usize
 // The byte of a digit.
 fn glyph(d: u8) -> u8
     requires { d < 16 }
-    ensures { result ≡ Digits·glyph d }
+    ensures { result ≡ digit_glyph d }
 {
     if d < 10 { 48 + d } else { 87 + d }
 }
