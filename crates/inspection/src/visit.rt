@@ -28,6 +28,7 @@ fn of_kind(h: Header, x: Node) -> Visited
 
 // A node of a used index: what both kinds are tested for, then by its kind. `above` is the node that we came from (0 at the root), `low` the least
 // prefix length that the node may have.
+#[tactic(auto, unfolding(crate::specs::Visit::by_kind))]
 fn by_kind(h: Header, clean: bool, above: NodeIndex, low: u64, x: Node) -> Visited
     ensures { result ≡ by_kind h clean above.0 low x }
 {

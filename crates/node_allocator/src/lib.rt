@@ -232,6 +232,7 @@ pub fn initialize(img: &mut [u8], a: Arena)
 // ---- records taken and freed: the caller knows the header, and is told what it becomes
 
 // The counts after the head's record is taken, whose register 0 names `next`: at the bump, bump and head move on; else the head is what it named.
+#[tactic(auto, unfolding(crate::specs::Steps::taken))]
 fn take(c: Counts, next: u32) -> Counts
     ensures { result ≡ taken c next }
 {

@@ -1,5 +1,4 @@
 -- `insert::steps::fork` meets its contract. Assumes nothing.
--- the three stores one after another, each from what the one before it left
 use native.Mathlib.Omega.{arith}
 use Rattle.insert.specs.Steps.{fork_node, forked}
 use mathlib.Core.Path.{◌≡◌, ◌∙◌}
@@ -11,6 +10,7 @@ use Rattle.records.specs.Records.{leaf_node, with_parent}
 use Rattle.records.specs.Writes.{set_node}
 use Rattle.insert.proofs.steps.fork.Goals as goal
 
+-- the three stores one after another, each from what the one before it left
 stores : (n i shared leaf cell copy : ℕ) (key : Key) (x moved new above : Node) (ws one two : List ℕ)
     → moved ≡ with_parent i x → one ≡ set_node n ws copy moved → new ≡ leaf_node i key cell → two ≡ set_node n one leaf new → above ≡ fork_node key shared leaf copy x
     → set_node n two i above ≡ forked n ws i x shared key leaf cell copy

@@ -1,5 +1,4 @@
 -- `insert::steps::split` meets its contract. Assumes nothing.
--- the steps one after another, each from what the one before it left
 use Rattle.insert.specs.Steps.{leaf_taken, copy_index, both_taken, adopted, forked, split_image}
 use mathlib.Core.Path.{◌≡◌, ◌∙◌}
 use mathlib.Core.List.{List}
@@ -13,6 +12,7 @@ use Rattle.records.specs.declared.Node.{Node}
 use Rattle.records.specs.declared.Value.{Value}
 use Rattle.insert.proofs.steps.split.Goals as goal
 
+-- the steps one after another, each from what the one before it left
 steps : (m n i shared : ℕ) (h : Header) (x : Node) (key : Key) (v : Value) (after : Counts) (ws leaf both kids : List ℕ)
     → after ≡ add_counts (Nodes n) ws h.nodes → leaf ≡ leaf_taken m n ws h v → both ≡ add_image (Nodes n) leaf after
     → kids ≡ adopted n both after.head x.left.0 x.right.0
