@@ -1,6 +1,6 @@
 -- The full check is exact (rule T15): its answer is Yes exactly if the image keeps the rules; an image of the right shape that
 -- does not keep them is refused as damaged.
-use Rattle.std.specs.Prelude.{◌≡◌, List, ◌≢◌, ◌↔◌, Bool, true, cond, ◌&&◌, ℕ, ◌+◌, ◌-◌, ◌*◌, ◌≤◌, length, eqb}
+use Rattle.std.specs.Prelude.{◌≡◌, List, ◌≢◌, ◌↔◌, Bool, true, cond, ◌&&◌, ℕ, ◌+◌, ◌-◌, ◌*◌, ◌≤◌, length, eqb, Err, Ok}
 use Rattle.std.proofs.Math.Path.{refl}
 use Rattle.std.proofs.Common.{sym, ap, ◌∙◌, arith, eqb-true, eq-eqb, ne_eqb, le-leb}
 use Rattle.std.proofs.Math.Bool.{false}
@@ -11,10 +11,9 @@ use Rattle.words.specs.Tests.{and_l, and_r}
 use Rattle.words.specs.Zeros.{Zeros, zeros_exact}
 use Rattle.node_allocator.specs.Layout.{node_at, value_at}
 use Rattle.records.specs.declared.Header.{Header}
-use Rattle.records.specs.declared.Done.TheVariants as done
 use Rattle.records.specs.declared.Refusal.TheVariants as no
 use Rattle.records.specs.Records.{header_of, front_of, spare_of, node_of, padding_of}
-use Rattle.records.specs.Numbers.{zero_key, refusal_number, done_number}
+use Rattle.records.specs.Numbers.{zero_key, refusal_number, answer_number}
 use Rattle.inspection.specs.Tests.{shape_ok, top_ok, root_ok}
 use Rattle.inspection.specs.Opening.{open_of, open_shaped}
 use Rattle.inspection.specs.Room.{shaped}
@@ -176,37 +175,37 @@ records_pass m n ws a =
 -- ---- the check
 
 -- It accepts every image that keeps the rules, where the scratch has a word for each value record.
-pub check_complete : (m n : ℕ) (ws scratch : List ℕ) → Accepted m n ws → m ≤ length scratch → check_of m n ws scratch ≡ done.Yes
+pub check_complete : (m n : ℕ) (ws scratch : List ℕ) → Accepted m n ws → m ≤ length scratch → check_of m n ws scratch ≡ Ok tt
 unfolding check_of check_shape opened_check
 check_complete m n ws scratch a l =
     rw (shape_passes a.shape, le-leb m (length scratch) l, accepted_opens a, records_pass m n ws a)
 
 -- It accepts no other image.
-pub check_sound : (m n : ℕ) (ws scratch : List ℕ) → Small ws → check_of m n ws scratch ≡ done.Yes → Accepted m n ws
-unfolding done_number
+pub check_sound : (m n : ℕ) (ws scratch : List ℕ) → Small ws → check_of m n ws scratch ≡ Ok tt → Accepted m n ws
+unfolding answer_number
 check_sound m n ws scratch small e =
-    let passed = (numbers m n ws scratch).accepted.0 (ap done_number e) in
+    let passed = (numbers m n ws scratch).accepted.0 (ap answer_number e) in
     records_rules m n ws small passed.0 passed.2 passed.3
 
 -- On an image of the right shape, with enough scratch: Yes exactly if the rules are kept, and Damaged exactly if they are not.
 pub record Exact (m n : ℕ) (ws scratch : List ℕ) : Type 0 where
-  pub yes_exactly : (check_of m n ws scratch ≡ done.Yes) ↔ Accepted m n ws
-  pub damaged_exactly : (check_of m n ws scratch ≡ done.Refused no.Damaged) ↔ (Accepted m n ws → ⊥)
+  pub yes_exactly : (check_of m n ws scratch ≡ Ok tt) ↔ Accepted m n ws
+  pub damaged_exactly : (check_of m n ws scratch ≡ Err no.Damaged) ↔ (Accepted m n ws → ⊥)
 
 pub check_exact : (m n : ℕ) (ws scratch : List ℕ) → Small ws → shape_ok m n (length ws) ≡ true → m ≤ length scratch
     → Exact m n ws scratch
-unfolding done_number refusal_number check_of check_shape open_of open_shaped opened_check
+unfolding answer_number refusal_number check_of check_shape open_of open_shaped opened_check
 check_exact m n ws scratch small s l =
     record {
       yes_exactly = (check_sound m n ws scratch small, λ a. check_complete m n ws scratch a l);
       damaged_exactly = (
-        (λ e a. let z : ◌≡◌ {A = ℕ} 2 0 = sym (ap done_number e) ∙ ap done_number (check_complete m n ws scratch a l) in omega arith),
+        (λ e a. let z : ◌≡◌ {A = ℕ} 2 0 = sym (ap answer_number e) ∙ ap answer_number (check_complete m n ws scratch a l) in omega arith),
         λ never. refuses never (top_ok m n ws) (records_ok m n (header_of n ws) ws) refl refl,
       );
     }
   where
     refuses : (Accepted m n ws → ⊥) → (a b : Bool) → top_ok m n ws ≡ a → records_ok m n (header_of n ws) ws ≡ b
-        → check_of m n ws scratch ≡ done.Refused no.Damaged
+        → check_of m n ws scratch ≡ Err no.Damaged
     refuses never true true p q = absurd (never (records_rules m n ws small s p q))
     refuses never true false p q = simp (s, le-leb m (length scratch) l, p, q)
     refuses never false b p q = simp (s, le-leb m (length scratch) l, p)

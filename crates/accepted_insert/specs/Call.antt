@@ -1,18 +1,17 @@
 -- Insert on an accepted image answers as the list does: a full map is refused and its image left, else the answer is
 -- where the key then stands, and the image is accepted with the list's next state.
-use Rattle.std.specs.Prelude.{◌≡◌, List, ◌≢◌, ℕ, ◌≤◌, ◌<◌, length}
+use Rattle.std.specs.Prelude.{◌≡◌, List, ◌≢◌, ℕ, ◌≤◌, ◌<◌, length, Err, Ok, Result}
 use Rattle.std.proofs.Math.Path.{refl, subst}
 use Rattle.std.proofs.Common.{sym, ap, ◌∙◌}
 use Rattle.std.proofs.Math.Option.{Option, none, some}
 use native.Mathlib.Omega.{arith}
+use Rattle.records.specs.declared.Refusal.{Refusal}
 use Rattle.keys.specs.declared.Key.{Key}
 use Rattle.keys.specs.Number.{Fits}
 use Rattle.records.specs.declared.Header.{Header}
 use Rattle.records.specs.declared.NodeIndex.{NodeIndex}
 use Rattle.records.specs.declared.Value.{Value}
 use Rattle.records.specs.declared.Refusal.TheVariants as no
-use Rattle.records.specs.declared.Place.{Place}
-use Rattle.records.specs.declared.Place.TheVariants as place
 use Rattle.records.specs.Records.{header_of, node_of, value_record_of}
 use Rattle.records.specs.Writes.{live_record, set_value}
 use Rattle.inspection.specs.Opening.{open_of}
@@ -45,21 +44,21 @@ module _ {m n : ℕ} {ws : List ℕ} (a : Accepted m n ws) (key : Key) (fits : F
   -- ---- the full map
 
   pub insert_full : length (listed a) ≡ m
-      → (insert_of m n ws key ≡ place.Refused no.Full) × (insert_image m n ws key v ≡ ws)
+      → (insert_of m n ws key ≡ Err no.Full) × (insert_image m n ws key v ≡ ws)
   unfolding insert_of insert_image plan_place plan_image
   insert_full e = let q = plan_full a key (sized a ∙ e) in (rw q refl, rw q refl)
 
   -- ---- a plan that writes
 
   -- the answer, and what the image is afterwards
-  abbrev Enters : Place → List ℕ → Type 0
+  abbrev Enters : Result NodeIndex Refusal → List ℕ → Type 0
   Enters p vs =
-      (i : NodeIndex) × (p ≡ place.At i)
-      × ((b : Accepted m n vs) × (listed b ≡ enter key v (listed a)) × (addr_of m n vs key ≡ place.At i))
+      (i : NodeIndex) × (p ≡ Ok i)
+      × ((b : Accepted m n vs) × (listed b ≡ enter key v (listed a)) × (addr_of m n vs key ≡ Ok i))
 
   -- an image in whose tree the key stands at node i
   entered : (vs : List ℕ) (i j : ℕ) (b : Accepted m n vs) → listed b ≡ enter key v (listed a)
-      → lookup_in key b.tree ≡ some (i, j) → Enters (place.At (record { 0 = i })) vs
+      → lookup_in key b.tree ≡ some (i, j) → Enters (Ok (record { 0 = i })) vs
   entered vs i j b l f = (record { 0 = i }, refl, (b, l, addr_agrees b key ∙ ap place_from f))
 
   -- the key's own leaf
@@ -94,14 +93,14 @@ module _ {m n : ℕ} {ws : List ℕ} (a : Accepted m n ws) (key : Key) (fits : F
         rising : Rising (listed a)
         rising = valued_rising n ws (list_of a.tree) (map_ascending a.tree a.ordered)
 
-    replace_enters : Enters (place.At (record { 0 = e.0 })) vs
+    replace_enters : Enters (Ok (record { 0 = e.0 })) vs
     replace_enters = entered vs e.0 e.1 replaced replaced_list (ap (lookup_in key) tree_same ∙ hit)
 
   -- by its plan
-  by_plan : (p : Plan) → opened_plan m n ws key (open_of m n ws) ≡ p → Enters (plan_place p) (plan_image m n ws key v p)
+  by_plan : (p : Result Plan Refusal) → opened_plan m n ws key (open_of m n ws) ≡ p → Enters (plan_place p) (plan_image m n ws key v p)
       → Enters (insert_of m n ws key) (insert_image m n ws key v)
   unfolding insert_of insert_image
-  by_plan p q e = subst (λ (z : Plan). Enters (plan_place z) (plan_image m n ws key v z)) (sym q) e
+  by_plan p q e = subst (λ (z : Result Plan Refusal). Enters (plan_place z) (plan_image m n ws key v z)) (sym q) e
 
   pub insert_enters : length (listed a) ≢ m → Enters (insert_of m n ws key) (insert_image m n ws key v)
   unfolding plan_place plan_image
@@ -120,28 +119,28 @@ module _ {m n : ℕ} {ws : List ℕ} (a : Accepted m n ws) (key : Key) (fits : F
           → Enters (insert_of m n ws key) (insert_image m n ws key v)
       on_lookup t is (some e) hit =
           let found : lookup_in key a.tree ≡ some e = ap (lookup_in key) is ∙ hit in
-          by_plan (Replace (record { 0 = e.0 }) (record { 0 = e.1 }))
+          by_plan (Ok (Replace (record { 0 = e.0 }) (record { 0 = e.1 })))
           (plan_replace a key room t (holds (some t) is) (ordered (some t) is) e hit (alive e found))
           (replace_enters e found)
       on_lookup t is none miss =
           let s = split_agrees a key fits v fits_value t is miss room in
-          by_plan (Split h (record { 0 = top (target key t) }) (node_of ws (top (target key t))) (shared key (key_of (target key t))))
+          by_plan (Ok (Split h (record { 0 = top (target key t) }) (node_of ws (top (target key t))) (shared key (key_of (target key t)))))
           (plan_split a key room t (holds (some t) is) (ordered (some t) is) miss)
           (entered _ h.nodes.head h.values.head s.0 s.1 s.2)
 
       on_tree : (u : Map) → a.tree ≡ u → Enters (insert_of m n ws key) (insert_image m n ws key v)
       on_tree none is =
           let s = first_agrees a key fits v fits_value is in
-          by_plan (First h) (plan_first a key room (holds none is) (ordered none is))
+          by_plan (Ok (First h)) (plan_first a key room (holds none is) (ordered none is))
           (entered _ h.nodes.head h.values.head s.0 s.1 s.2)
       on_tree (some t) is = on_lookup t is (lookup key t) refl
 
   -- ---- both
 
   pub insert_agrees :
-      (length (listed a) ≡ m → (insert_of m n ws key ≡ place.Refused no.Full) × (insert_image m n ws key v ≡ ws))
+      (length (listed a) ≡ m → (insert_of m n ws key ≡ Err no.Full) × (insert_image m n ws key v ≡ ws))
       × (length (listed a) ≢ m
-      → (i : NodeIndex) × (insert_of m n ws key ≡ place.At i)
+      → (i : NodeIndex) × (insert_of m n ws key ≡ Ok i)
       × ((b : Accepted m n (insert_image m n ws key v)) × (listed b ≡ enter key v (listed a))
-      × (addr_of m n (insert_image m n ws key v) key ≡ place.At i)))
+      × (addr_of m n (insert_image m n ws key v) key ≡ Ok i)))
   insert_agrees = (insert_full, insert_enters)

@@ -1,6 +1,6 @@
 -- Insert's plan on an accepted image: refused exactly where the map is full, else the first leaf, the key's own leaf, or
 -- the split of the node where the key parts from the tree.
-use Rattle.std.specs.Prelude.{◌≡◌, List, Bool, true, false, cond, ℕ, ◌+◌, ◌≤◌, ◌<◌, length, leb}
+use Rattle.std.specs.Prelude.{◌≡◌, List, Bool, true, false, cond, ℕ, ◌+◌, ◌≤◌, ◌<◌, length, leb, Err, Ok}
 use Rattle.std.proofs.Common.{sym, ◌∙◌, arith, eq-eqb, ne_eqb}
 use Rattle.std.proofs.Math.Option.{none, some}
 use Rattle.std.proofs.lemmas.List.{length-map}
@@ -10,7 +10,7 @@ use Rattle.records.specs.declared.Value.{Value}
 use Rattle.records.specs.declared.Refusal.TheVariants as no
 use Rattle.records.specs.Records.{header_of, node_of, value_record_of}
 use Rattle.inspection.specs.Opening.{open_of}
-use Rattle.insert.specs.declared.Plan.TheVariants.{First, Replace, Split, Refused}
+use Rattle.insert.specs.declared.Plan.TheVariants.{First, Replace, Split}
 use Rattle.insert.specs.Plan.{stop_plan, insert_plan}
 use Rattle.insert.specs.Steps.{opened_plan}
 use Rattle.trees.specs.Keys.{shared, bit}
@@ -64,7 +64,7 @@ module _ {m n : ℕ} {ws : List ℕ} (a : Accepted m n ws) where
     unfolding opened_plan
     planned = rw (accepted_opens a)
 
-    pub plan_full : h.values.size ≡ m → opened_plan m n ws key (open_of m n ws) ≡ Refused no.Full
+    pub plan_full : h.values.size ≡ m → opened_plan m n ws key (open_of m n ws) ≡ Err no.Full
     unfolding insert_plan
     plan_full e = planned ∙ rw (eq-eqb h.values.size m e)
 
@@ -74,7 +74,7 @@ module _ {m n : ℕ} {ws : List ℕ} (a : Accepted m n ws) where
       unfolding insert_plan
       descended t k o = planned ∙ rw (ne_eqb h.values.size m (λ e. omega arith), find_tree a key t k o)
 
-      pub plan_first : HoldsMap h ws none → OrderedMap none → opened_plan m n ws key (open_of m n ws) ≡ First h
+      pub plan_first : HoldsMap h ws none → OrderedMap none → opened_plan m n ws key (open_of m n ws) ≡ Ok (First h)
       unfolding stop_plan
       plan_first k o = descended none k o ∙ rw (new_leaf_passes a (omega (arith, node_room room)) room)
 
@@ -84,7 +84,7 @@ module _ {m n : ℕ} {ws : List ℕ} (a : Accepted m n ws) where
         held = k.held
 
         pub plan_replace : (e : ℕ × ℕ) → lookup key t ≡ some e → Live (value_record_of n ws e.1)
-            → opened_plan m n ws key (open_of m n ws) ≡ Replace (at e.0) (record { 0 = e.1 })
+            → opened_plan m n ws key (open_of m n ws) ≡ Ok (Replace (at e.0) (record { 0 = e.1 }))
         unfolding stop_plan stop_from
         plan_replace e q live =
             let own : (node_of ws e.0).value.0 ≡ e.1 = found_value h ws key 0 0 t held e q in
@@ -92,8 +92,8 @@ module _ {m n : ℕ} {ws : List ℕ} (a : Accepted m n ws) where
             descended (some t) k o ∙ rw (q, same, live_passes n ws e.0 e.1 live)
 
         pub plan_split : lookup key t ≡ none
-            → opened_plan m n ws key (open_of m n ws) ≡ Split h (at (top (target key t))) (node_of ws (top (target key t)))
-            (shared key (key_of (target key t)))
+            → opened_plan m n ws key (open_of m n ws) ≡ Ok (Split h (at (top (target key t))) (node_of ws (top (target key t)))
+            (shared key (key_of (target key t))))
         unfolding stop_plan stop_from
         plan_split q =
             let x = target_held h ws key 0 0 t held in

@@ -1,14 +1,13 @@
 -- A listing on an accepted image with value writes between its steps: the entries given are those of the list as it is at each step, each key is given once, and no stack passes 129.
-use Rattle.std.specs.Prelude.{◌≡◌, refl, List, [], ◌∷◌, ◌++◌, map, Bool, true, false, cond, ℕ, ◌≤◌, length}
+use Rattle.std.specs.Prelude.{◌≡◌, refl, List, [], ◌∷◌, ◌++◌, map, Bool, true, false, cond, ℕ, ◌≤◌, length, Err, Ok, Result}
 use Rattle.std.proofs.Common.{sym, ap, ◌∙◌, arith}
 use Rattle.std.proofs.lemmas.List.{map-append, length-map}
 use Rattle.std.proofs.Math.Option
 use Rattle.std.proofs.Math.Option.{Option, none, some}
+use Rattle.records.specs.declared.Refusal.{Refusal}
 use Rattle.keys.specs.declared.Key.{Key}
 use Rattle.records.specs.declared.Value.{Value}
 use Rattle.records.specs.declared.Refusal.TheVariants as no
-use Rattle.records.specs.declared.Entry.{Entry}
-use Rattle.records.specs.declared.Entry.TheVariants as entry
 use Rattle.lookup.specs.Get.{write_image}
 use Rattle.listing.specs.declared.Position.{Position}
 use Rattle.listing.specs.Position.{made_of}
@@ -43,7 +42,7 @@ sides_of (stepped back ∷ moves) = back ∷ sides_of moves
 sides_of (written key v ∷ moves) = sides_of moves
 
 -- over the words: the entries of the steps, the image afterwards, and the position
-abbrev pub heard : List Move → ℕ → ℕ → List ℕ → Position → List Entry
+abbrev pub heard : List Move → ℕ → ℕ → List ℕ → Position → List (Result (Key × Value) Refusal)
 heard [] m n ws p = []
 heard (stepped back ∷ moves) m n ws p = (step_of back m n ws p).entry ∷ heard moves m n ws (step_of back m n ws p).position
 heard (written key v ∷ moves) m n ws p = heard moves m n (write_image m n ws key v) p
@@ -156,13 +155,13 @@ told_ends moves more xs l = told_append moves more xs ∙ rw (nothing_left moves
 -- Once there were as many steps as the list is long, every key was given, each once, and every later step answers absent.
 pub history_ends : {m n : ℕ} {ws : List ℕ} (a : Accepted m n ws) (moves more : List Move) → Fitting (moves ++ more) → length (listed a) ≤ length (sides_of moves)
     → (at_front (sides_of moves) (keys_told moves (listed a)) ++ at_back (sides_of moves) (keys_told moves (listed a)) ≡ map (λ e. e.0) (listed a))
-    × (heard (moves ++ more) m n ws (made_of m n ws).position ≡ map entry_from (told moves (listed a)) ++ map (λ b. entry.Refused no.Absent) (sides_of more))
+    × (heard (moves ++ more) m n ws (made_of m n ws).position ≡ map entry_from (told moves (listed a)) ++ map (λ b. Err no.Absent) (sides_of more))
 history_ends a moves more f l = (
   rw (history_keys moves (listed a)) (taken_all (sides_of moves) [] (keys_in (listed a)) (omega (arith, length-map {B = Key} (listed a) (λ e. e.0)))).0,
   history_agrees a (moves ++ more) f
       ∙ ap (map entry_from) (told_ends moves more (listed a) l)
       ∙ map-append entry_from (told moves (listed a)) (map (λ b. none) (sides_of more))
-      ∙ ap (λ (es : List Entry). map entry_from (told moves (listed a)) ++ es) (map_constant entry_from none (sides_of more)),
+      ∙ ap (λ (es : List (Result (Key × Value) Refusal)). map entry_from (told moves (listed a)) ++ es) (map_constant entry_from none (sides_of more)),
 )
 
 -- ---- at every moment
@@ -179,7 +178,7 @@ pub record Now {m n : ℕ} {ws : List ℕ} (a : Accepted m n ws) (moves : List M
       → (step_of back m n (image_after moves m n ws) (position_after moves m n ws (made_of m n ws).position)).entry ≡ entry_from (list_end back (left_after moves (listed a)))
   -- the value that it gives is the one that the list holds for the key now
   pub current : (back : Bool) (key : Key) (v : Value)
-      → (step_of back m n (image_after moves m n ws) (position_after moves m n ws (made_of m n ws).position)).entry ≡ entry.Is key v → find key (listed image) ≡ some v
+      → (step_of back m n (image_after moves m n ws) (position_after moves m n ws (made_of m n ws).position)).entry ≡ Ok (key, v) → find key (listed image) ≡ some v
   -- no stack passes 129
   pub front_small : (position_after moves m n ws (made_of m n ws).position).front.count ≤ 129
   pub back_small : (position_after moves m n ws (made_of m n ws).position).back.count ≤ 129
@@ -190,7 +189,7 @@ moment_after [] f x = x
 moment_after {m = m} {n = n} {ws = ws} {p = p} (stepped back ∷ moves) f x = moment_after {p = (step_of back m n ws p).position} moves f (moment_stepped x back)
 moment_after {m = m} {n = n} {ws = ws} (written key v ∷ moves) f x = moment_after {ws = write_image m n ws key v} moves f.1 (moment_written x key v f.0)
 
-entry_given : (o : Option (Key × Value)) (key : Key) (v : Value) → entry_from o ≡ entry.Is key v → o ≡ some (key, v)
+entry_given : (o : Option (Key × Value)) (key : Key) (v : Value) → entry_from o ≡ Ok (key, v) → o ≡ some (key, v)
 entry_given none key v e = let z : ◌≡◌ {A = ℕ} 0 1 = cc in absurd (omega arith)
 entry_given (some x) key v e =
     let k : x.0 ≡ key = cc in

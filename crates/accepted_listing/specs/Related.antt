@@ -1,6 +1,6 @@
 -- A position of a listing over the words against a position of the walk over the image's tree: what relates them is made by making a position, and every step at either end keeps it and
 -- gives the same entry.
-use Rattle.std.specs.Prelude.{◌≡◌, refl, ◌≢◌, Bool, cond, ℕ, ◌-◌, ◌≤◌, eqb}
+use Rattle.std.specs.Prelude.{◌≡◌, refl, ◌≢◌, Bool, cond, ℕ, ◌-◌, ◌≤◌, eqb, Err, Ok}
 use Rattle.std.proofs.Math.Path.{sym}
 use Rattle.std.proofs.Common.{ap, subst, ◌∙◌, arith}
 use mathlib.Core.List.{List, [], ◌∷◌}
@@ -12,8 +12,6 @@ use Rattle.keys.specs.declared.Key.{Key}
 use Rattle.records.specs.declared.ValueIndex.{ValueIndex}
 use Rattle.records.specs.declared.Value.{Value}
 use Rattle.records.specs.declared.Refusal.TheVariants as no
-use Rattle.records.specs.declared.Done.TheVariants as done
-use Rattle.records.specs.declared.Entry.TheVariants as entry
 use Rattle.records.specs.Records.{header_of, value_record_of}
 use Rattle.inspection.specs.Visit.{first_of, live_of}
 use Rattle.listing.specs.declared.Stack.{Stack}
@@ -109,11 +107,11 @@ module _ {m n : ℕ} {ws : List ℕ} (a : Accepted m n ws) where
     where
       go : (b : Bool)
           → Moves (cond b (meets x last) (gives x))
-          (cond b (record { near = record { places = o.places; count = o.count; last = st.last }; ended = true; entry = entry.Refused no.Absent })
+          (cond b (record { near = record { places = o.places; count = o.count; last = st.last }; ended = true; entry = Err no.Absent })
           (record {
             near = record { places = o.places; count = o.count; last = record { 0 = x.0.1 } };
             ended = false;
-            entry = entry.Is x.0.0 (value_record_of n ws x.0.1).value;
+            entry = Ok (x.0.0, (value_record_of n ws x.0.1).value);
           }))
       go true = (refl, record { room = g.room; counted = g.counted; named = g.named; latest = l; parts = parts }, refl)
       go false = (refl, record { room = g.room; counted = g.counted; named = g.named; latest = refl; parts = parts }, refl)
@@ -194,6 +192,6 @@ module _ {m n : ℕ} {ws : List ℕ} (a : Accepted m n ws) where
       rw (ne_eqb (header_of n ws).values.size 0 (size_some a t k)) (record { front = root_end t k; back = root_end t k; mark = refl; within = start_within (some t) o })
 
   -- Making a position succeeds, and the position is related to the walk's start.
-  pub made_agrees : ((made_of m n ws).answer ≡ done.Yes) × Related a.tree (start a.tree) (made_of m n ws).position
+  pub made_agrees : ((made_of m n ws).answer ≡ Ok tt) × Related a.tree (start a.tree) (made_of m n ws).position
   unfolding made_of opened_made
   made_agrees = rw (accepted_opens a) (refl, begun a.tree a.holds a.ordered)

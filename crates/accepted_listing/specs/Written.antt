@@ -1,13 +1,15 @@
 -- A value write on an accepted image keeps the tree, and changes the value of its key in the whole list and in every segment of it alike.
-use Rattle.std.specs.Prelude.{◌≡◌, refl, List, [], ◌∷◌, map, Bool, true, false, cond, ℕ, ◌≤◌, ◌<◌}
+use Rattle.std.specs.Prelude.{◌≡◌, refl, List, [], ◌∷◌, map, Bool, true, false, cond, ℕ, ◌≤◌, ◌<◌, Result}
 use Rattle.std.proofs.Common.{sym, ap, ◌∙◌, arith, eqb-true, ne_eqb}
 use Rattle.std.proofs.Math.Path.{subst}
 use Rattle.std.proofs.Math.Option.{Option, none, some}
+use Rattle.records.specs.declared.Refusal.{Refusal}
+use Rattle.records.specs.declared.NodeIndex.{NodeIndex}
+use Rattle.records.specs.declared.Node.{Node}
 use Rattle.keys.specs.declared.Key.{Key}
 use Rattle.keys.specs.Number.{number_of}
 use Rattle.records.specs.declared.Value.{Value}
 use Rattle.records.specs.Records.{header_of, value_record_of}
-use Rattle.lookup.specs.declared.Target.{Target}
 use Rattle.lookup.specs.Get.{target_image, write_image}
 use Rattle.lists.specs.Lists.{All, all_map}
 use Rattle.lists.specs.Entries.{same, Before, Rising, find, find_all, unfound, update}
@@ -73,7 +75,7 @@ pub record Kept {m n : ℕ} {ws : List ℕ} (a : Accepted m n ws) (key : Key) (v
 module _ {m n : ℕ} {ws : List ℕ} (a : Accepted m n ws) where
   pub write_keeps : (key : Key) (v : Value) → FitsValue v → Kept a key v (write_image m n ws key v)
   unfolding write_image target_image
-  write_keeps key v fits = subst (λ (t : Target). Kept a key v (target_image m n ws v t)) (sym (target_agrees a key)) (go (lookup_in key a.tree) refl)
+  write_keeps key v fits = subst (λ (t : Result (NodeIndex × Node × Value) Refusal). Kept a key v (target_image m n ws v t)) (sym (target_agrees a key)) (go (lookup_in key a.tree) refl)
     where
       rising : Rising (list_of a.tree)
       rising = map_ascending a.tree a.ordered

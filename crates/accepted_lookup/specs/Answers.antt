@@ -1,31 +1,27 @@
 -- On an accepted image get, contains, get_addr, smallest, largest, length and capacity answer as its ascending list of keys and values does, refusals included. Refusal 2 does not arise.
-use Rattle.std.specs.Prelude.{◌≡◌, List, [], ◌∷◌, map, ◌≢◌, Bool, true, false, length}
+use Rattle.std.specs.Prelude.{◌≡◌, List, [], ◌∷◌, map, ◌≢◌, Bool, true, false, length, Err, Ok, Result, Some}
 use Rattle.std.proofs.Math.Path.{refl, sym, ap}
 use Rattle.std.proofs.Common.{◌∙◌, arith, length-append, ne_eqb, eq-eqb}
 use Rattle.std.proofs.Math.Option
 use Rattle.std.proofs.Math.Option.{Option, none, some}
 use Prim.Native.Nat.{ℕ, ◌+◌, ◌*◌, ◌≤◌}
 use Rattle.std.proofs.Math.ListN.{length-map}
+use Rattle.records.specs.declared.Refusal.{Refusal}
 use Rattle.keys.specs.declared.Key.{Key}
 use Rattle.records.specs.declared.Header.{Header}
 use Rattle.records.specs.declared.NodeIndex.{NodeIndex}
 use Rattle.records.specs.declared.Node.{Node}
 use Rattle.records.specs.declared.Value.{Value}
 use Rattle.records.specs.declared.Refusal.TheVariants as no
-use Rattle.records.specs.declared.Place.{Place}
-use Rattle.records.specs.declared.Place.TheVariants as place
-use Rattle.records.specs.declared.Count.TheVariants as count
 use Rattle.records.specs.Records.{header_of, node_of, value_record_of}
-use Rattle.inspection.specs.declared.Live.TheVariants as live
+use Rattle.descent.specs.Found.{stop_leaf}
 use Rattle.inspection.specs.Visit.{live_of}
 use Rattle.descent.specs.declared.Stop.{Stop}
 use Rattle.descent.specs.declared.Stop.TheVariants as stop
 use Rattle.descent.specs.declared.Turn.{Turn}
 use Rattle.descent.specs.Descent.{lookup_turn, end_turn, descend, from_root, find_of}
-use Rattle.lookup.specs.declared.Target.{Target}
-use Rattle.lookup.specs.declared.Target.TheVariants.{At, No}
 use Rattle.lookup.specs.Start.{length_of, opened_length, capacity_reply, opened_capacity}
-use Rattle.lookup.specs.Get.{live_target, stop_target, opened_target, target_of, target_got, get_of, stop_done, opened_done, contains_of, stop_place, opened_place, addr_of}
+use Rattle.lookup.specs.Get.{live_target, stop_target, opened_target, target_of, target_got, get_of, stop_done, opened_done, contains_of, stop_place, opened_place, addr_of, leaf_place, leaf_done, leaf_target}
 use Rattle.lookup.specs.Ends.{target_entry, opened_entry, end_entry}
 use Rattle.lists.specs.Lists.{All, pairs_mapped}
 use Rattle.lists.specs.Entries.{list_end, Before, Rising, find, held, is_some, held_found, find_all, find_map}
@@ -91,9 +87,9 @@ nodes_entries (inner i key p l r) = rw length-append (omega (arith, nodes_entrie
 
 -- ---- the answer of a leaf's node
 
-abbrev pub place_from : Option (ℕ × ℕ) → Place
-place_from none = place.Refused no.Absent
-place_from (some e) = place.At (record { 0 = e.0 })
+abbrev pub place_from : Option (ℕ × ℕ) → Result NodeIndex Refusal
+place_from none = Err no.Absent
+place_from (some e) = Ok (record { 0 = e.0 })
 
 -- ---- the descents from the root
 
@@ -169,9 +165,9 @@ module _ {m n : ℕ} {ws : List ℕ} (a : Accepted m n ws) where
   -- ---- get and the value write's target
 
   -- the target of a key is its leaf and its value, or it is absent
-  abbrev pub target_from : Option (ℕ × ℕ) → Target
-  target_from none = No no.Absent
-  target_from (some e) = At (at e.0) (node_of ws e.0) (value_at_record n ws e.1)
+  abbrev pub target_from : Option (ℕ × ℕ) → Result (NodeIndex × Node × Value) Refusal
+  target_from none = Err no.Absent
+  target_from (some e) = Ok ((at e.0), (node_of ws e.0), (value_at_record n ws e.1))
 
   pub value_found : (key : Key) → value_of (lookup_in key a.tree) ≡ find key (list_of a.tree)
   value_found key = (map_lookup key a.tree a.ordered).0
@@ -192,12 +188,12 @@ module _ {m n : ℕ} {ws : List ℕ} (a : Accepted m n ws) where
       in_map (some t) k q = found_value (header_of n ws) ws key 0 0 t (held_of t k) e q
 
   -- a live value record holds its value
-  live_held : (i j : ℕ) → Live (value_record_of n ws j) → live_of n ws i j ≡ live.Holds (value_at_record n ws j)
+  live_held : (i j : ℕ) → Live (value_record_of n ws j) → live_of n ws i j ≡ Some (value_at_record n ws j)
   unfolding live_of
   live_held i j l = rw (live_passes n ws i j l)
 
   pub target_agrees : (key : Key) → target_of m n ws key ≡ target_from (lookup_in key a.tree)
-  unfolding target_of opened_target stop_target live_target
+  unfolding target_of opened_target leaf_target stop_leaf live_target
   target_agrees key =
       rw (accepted_opens a)
       (at_stop key (stop_target n ws) target_from refl (λ i x s. refl) (λ e q. rw (target_value key e q, live_held e.0 e.1 (alive key e q))))
@@ -216,13 +212,13 @@ module _ {m n : ℕ} {ws : List ℕ} (a : Accepted m n ws) where
   -- ---- contains and get_addr
 
   pub contains_agrees : (key : Key) → contains_of m n ws key ≡ done_from (held key (listed a))
-  unfolding contains_of opened_done stop_done
+  unfolding contains_of opened_done leaf_done stop_leaf
   contains_agrees key =
       rw (accepted_opens a) (at_stop key stop_done (λ r. done_from (is_some (value_of r))) refl (λ i x s. refl) (λ e q. refl)) ∙ ap done_from (sym (held_listed key))
 
   -- the node index of a held key is its leaf's
   pub addr_agrees : (key : Key) → addr_of m n ws key ≡ place_from (lookup_in key a.tree)
-  unfolding addr_of opened_place stop_place
+  unfolding addr_of opened_place leaf_place stop_leaf
   addr_agrees key = rw (accepted_opens a) (at_stop key stop_place place_from refl (λ i x s. refl) (λ e q. refl))
 
   -- ---- smallest and largest
@@ -232,7 +228,7 @@ module _ {m n : ℕ} {ws : List ℕ} (a : Accepted m n ws) where
 
   end_stop : (right : Bool) (t : Map) → HoldsMap (header_of n ws) ws t → OrderedMap t → All (λ e. Live (value_record_of n ws e.1)) (list_of t)
       → target_entry (stop_target n ws (landed_in (λ p. right) t)) ≡ entry_from (Option.map (λ e. (e.0, value_at_record n ws e.1)) (list_end right (list_of t)))
-  unfolding target_entry stop_target live_target
+  unfolding target_entry leaf_target stop_leaf live_target
   end_stop right none k o l = refl
   end_stop right (some t) k o l =
       let e = rw (outermost_landed right t) at (landed_node (header_of n ws) ws (λ p. right) 0 0 t (held_of t k)) in
@@ -257,10 +253,10 @@ module _ {m n : ℕ} {ws : List ℕ} (a : Accepted m n ws) where
   sized none k = k
   sized (some t) k = omega (arith, nodes_entries t, k.counted, a.header.node_size)
 
-  pub length_agrees : length_of m n ws ≡ count.Is (length (listed a))
+  pub length_agrees : length_of m n ws ≡ Ok (length (listed a))
   unfolding length_of opened_length
   length_agrees = rw (accepted_opens a, sized a.tree a.holds, length-map {B = Key × Value} (list_of a.tree) (λ e. (e.0, value_at_record n ws e.1)))
 
-  pub capacity_agrees : capacity_reply m n ws ≡ count.Is m
+  pub capacity_agrees : capacity_reply m n ws ≡ Ok m
   unfolding capacity_reply opened_capacity
   capacity_agrees = rw (accepted_opens a)

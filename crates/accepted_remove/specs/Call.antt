@@ -1,21 +1,20 @@
 -- Remove on an accepted image answers as the list does, refusals included, and leaves an accepted image whose list is
 -- the list without the key.
-use Rattle.std.specs.Prelude.{◌≡◌, List, ℕ}
+use Rattle.std.specs.Prelude.{◌≡◌, List, ℕ, Ok, Some, Err, Result}
 use Rattle.std.proofs.Math.Path.{refl, sym, ap}
 use Rattle.std.proofs.Common.{◌∙◌, inl, inr}
 use Rattle.std.proofs.Math.Option.{Option, none, some, map}
+use Rattle.records.specs.declared.Refusal.{Refusal}
 use Rattle.keys.specs.declared.Key.{Key}
 use Rattle.records.specs.declared.Header.{Header}
 use Rattle.records.specs.declared.Value.{Value}
-use Rattle.records.specs.declared.Got.TheVariants as got
 use Rattle.records.specs.declared.Refusal.TheVariants as no
 use Rattle.records.specs.Records.{header_of, node_of, leaf_node, value_record_of}
-use Rattle.inspection.specs.declared.Live.TheVariants as live
+use Rattle.descent.specs.Found.{stop_leaf}
 use Rattle.inspection.specs.Visit.{live_of}
 use Rattle.descent.specs.Descent.{bits_turn}
 use Rattle.remove.specs.declared.Plan.{Plan}
-use Rattle.remove.specs.declared.Plan.TheVariants.{Refused}
-use Rattle.remove.specs.Plan.{leaf_plan, stop_plan}
+use Rattle.remove.specs.Plan.{leaf_plan, stop_plan, reached_plan}
 use Rattle.remove.specs.Steps.{plan_image, value_gone, opened_plan, remove_of, removed_image}
 use Rattle.lists.specs.Entries.{same, find, find_all, unfound, erase, erase_none}
 use Rattle.lists.specs.Answers.{got_from}
@@ -42,7 +41,7 @@ module _ {m n : ℕ} {ws : List ℕ} (a : Accepted m n ws) (key : Key) where
   h = header_of n ws
 
   -- what is to be shown of a plan
-  abbrev Agrees : Plan → Type 0
+  abbrev Agrees : Result Plan Refusal → Type 0
   Agrees p = (value_gone p ≡ got_from (find key (listed a))) × ((b : Accepted m n (plan_image m n ws p)) × (listed b ≡ erase key (listed a)))
 
   -- what the key's bits lead to is what the list holds
@@ -52,7 +51,7 @@ module _ {m n : ℕ} {ws : List ℕ} (a : Accepted m n ws) (key : Key) where
   listed_is : (r : Option (ℕ × ℕ)) → reach_in key a.tree ≡ r → find key (listed a) ≡ map (value_at_record n ws) (value_of r)
   listed_is r q = find_valued n ws key (list_of a.tree) ∙ ap (map (value_at_record n ws)) (reached r q)
 
-  absent : reach_in key a.tree ≡ none → Agrees (Refused no.Absent)
+  absent : reach_in key a.tree ≡ none → Agrees (Err no.Absent)
   unfolding value_gone plan_image
   absent q =
       let miss : find key (listed a) ≡ none = listed_is none q in
@@ -66,17 +65,17 @@ module _ {m n : ℕ} {ws : List ℕ} (a : Accepted m n ws) (key : Key) where
     abbrev v : Value
     v = value_at_record n ws j
 
-    answer : got.Found v ≡ got_from (find key (listed a))
+    answer : Ok v ≡ got_from (find key (listed a))
     answer = sym (ap got_from (listed_is (some (i, j)) found))
 
     pub alive : Live (value_record_of n ws j)
     alive = find_all (λ w. Live (value_record_of n ws w)) key (list_of a.tree) j a.live (reached (some (i, j)) found)
 
-    present : Agrees (leaf_plan h ws key (at i) (node_of ws i) (live.Holds v))
+    present : Agrees (leaf_plan h ws key (at i) (node_of ws i) (Some v))
     unfolding value_gone plan_image
     present = go (testb (hit key t))
       where
-        go : Bit (hit key t) → Agrees (leaf_plan h ws key (at i) (node_of ws i) (live.Holds v))
+        go : Bit (hit key t) → Agrees (leaf_plan h ws key (at i) (node_of ws i) (Some v))
         go (inl b) =
             let z = hit_leaf key t i j b e in
             let lone = is ∙ ap (λ (u : Tree). some u) z.1 in
@@ -88,7 +87,7 @@ module _ {m n : ℕ} {ws : List ℕ} (a : Accepted m n ws) (key : Key) where
 
   -- where the key's bits lead
   stopped : (u : Map) → a.tree ≡ u → Agrees (stop_plan n h ws key (landed_in a (bit key) u))
-  unfolding stop_plan live_of
+  unfolding reached_plan stop_leaf live_of
   stopped none is = absent (ap (λ (u : Map). reach_in key u) is)
   stopped (some t) is = go (testb (same key own))
     where

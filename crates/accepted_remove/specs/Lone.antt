@@ -1,5 +1,5 @@
 -- The last key of an accepted image is removed: the root is none, its leaf is free, and the rules hold of the empty map.
-use Rattle.std.specs.Prelude.{◌≡◌, refl, List, ◌∷◌, true, ℕ, ◌-◌, ◌≤◌, ◌<◌}
+use Rattle.std.specs.Prelude.{◌≡◌, refl, List, ◌∷◌, true, ℕ, ◌-◌, ◌≤◌, ◌<◌, Some, Ok}
 use Rattle.std.proofs.Common.{sym, ap, subst, ◌∙◌, arith, eq-eqb, ne_eqb}
 use Rattle.std.proofs.Math.Option.{some}
 use Rattle.keys.specs.declared.Key.{Key}
@@ -8,7 +8,6 @@ use Rattle.node_allocator.specs.Layout.{capacity_of}
 use Rattle.records.specs.declared.Header.{Header}
 use Rattle.records.specs.declared.Value.{Value}
 use Rattle.records.specs.Records.{header_of, node_of, leaf_node, bare_node}
-use Rattle.inspection.specs.declared.Live.TheVariants as live
 use Rattle.remove.specs.declared.Plan.TheVariants.{Lone}
 use Rattle.remove.specs.Plan.{leaf_plan}
 use Rattle.remove.specs.Steps.{lone_image}
@@ -120,6 +119,6 @@ module _ {m n : ℕ} {ws : List ℕ} (a : Accepted m n ws) (key : Key) (i : ℕ)
       }
 
   -- it is the plan
-  pub lone_planned : (v : Value) → leaf_plan h ws key (at i) (node_of ws i) (live.Holds v) ≡ Lone h (at i) (leaf_node 0 own j) v
+  pub lone_planned : (v : Value) → leaf_plan h ws key (at i) (node_of ws i) (Some v) ≡ Ok (Lone h (at i) (leaf_node 0 own j) v)
   unfolding leaf_plan
   lone_planned v = rw lone_here

@@ -2,7 +2,7 @@
 -- any write pass there, and the plan is to cut.
 use Rattle.std.proofs.Math.Path.{◌≡◌, refl}
 use Rattle.std.proofs.Common.{ap, subst, arith}
-use Rattle.std.specs.Prelude.{List, Bool, ℕ, ◌+◌, ◌≤◌}
+use Rattle.std.specs.Prelude.{List, Bool, ℕ, ◌+◌, ◌≤◌, Some, Ok}
 use Rattle.std.proofs.Math.Bool.{true, false, cond}
 use Rattle.std.proofs.Math.Option.{Option, none, some}
 use borrow.Author.Tests.{ne_eqb, le-leb, lt-ltb}
@@ -11,7 +11,6 @@ use Rattle.records.specs.declared.Header.{Header}
 use Rattle.records.specs.declared.Node.{Node}
 use Rattle.records.specs.declared.Value.{Value}
 use Rattle.records.specs.Records.{node_of, leaf_node}
-use Rattle.inspection.specs.declared.Live.TheVariants as live
 use Rattle.remove.specs.declared.Plan.TheVariants.{Cut}
 use Rattle.remove.specs.Plan.{sibling_of, sibling_ok, cut_plan, leaf_plan}
 use Rattle.lists.specs.Entries.{same}
@@ -140,7 +139,7 @@ module _ {h : Header} {ws : List ℕ} {key : Key} {i j : ℕ} {t : Tree} (s : Sp
       go false = refl
 
   pub cut_planned : Clean h ws → (v : Value)
-      → leaf_plan h ws key (at i) (node_of ws i) (live.Holds v) ≡ Cut h (at i) leaf_there fork_there (at (top s.far)) (node_of ws (top s.far)) v
+      → leaf_plan h ws key (at i) (node_of ws i) (Some v) ≡ Ok (Cut h (at i) leaf_there fork_there (at (top s.far)) (node_of ws (top s.far)) v)
   unfolding leaf_plan cut_plan sibling_ok
   cut_planned clean v =
       simp (

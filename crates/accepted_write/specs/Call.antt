@@ -1,13 +1,15 @@
 -- The value write on an accepted image answers as the list does, refusals included, and leaves an accepted image whose list is the list's next state.
-use Rattle.std.specs.Prelude.{◌≡◌, List, [], ◌∷◌, true, false, ℕ, ◌≤◌, ◌<◌}
+use Rattle.std.specs.Prelude.{◌≡◌, List, [], ◌∷◌, true, false, ℕ, ◌≤◌, ◌<◌, Result}
 use Rattle.std.proofs.Math.Path.{refl}
 use Rattle.std.proofs.Common.{sym, ap, ◌∙◌}
 use Rattle.std.proofs.Math.Option.{Option, none, some}
+use Rattle.records.specs.declared.Refusal.{Refusal}
+use Rattle.records.specs.declared.NodeIndex.{NodeIndex}
+use Rattle.records.specs.declared.Node.{Node}
 use Rattle.keys.specs.declared.Key.{Key}
 use Rattle.records.specs.declared.Value.{Value}
 use Rattle.records.specs.Records.{header_of, value_record_of}
 use Rattle.records.specs.Writes.{live_record, set_value}
-use Rattle.lookup.specs.declared.Target.{Target}
 use Rattle.lookup.specs.Get.{target_of, target_done, write_of, target_image, write_image}
 use Rattle.lists.specs.Lists.{All}
 use Rattle.lists.specs.Entries.{find, held, is_some, find_all, Other, unheld, update}
@@ -32,7 +34,7 @@ module _ {m n : ℕ} {ws : List ℕ} (a : Accepted m n ws) (key : Key) (v : Valu
   unfolding write_of write_image target_done target_image
   write_agrees = go (lookup_in key a.tree) refl
     where
-      Goal : Target → Type 0
+      Goal : Result (NodeIndex × Node × Value) Refusal → Type 0
       Goal t = (target_done t ≡ done_from (held key (listed a))) × ((b : Accepted m n (target_image m n ws v t)) × (listed b ≡ update key v (listed a)))
 
       go : (r : Option (ℕ × ℕ)) → lookup_in key a.tree ≡ r → Goal (target_of m n ws key)

@@ -1,5 +1,5 @@
 -- Start on blank memory leaves an accepted image with the empty list: rules R9 and B3.
-use Rattle.std.specs.Prelude.{◌≡◌, List, [], ℕ, ◌+◌, length, get_or}
+use Rattle.std.specs.Prelude.{◌≡◌, List, [], ℕ, ◌+◌, length, get_or, Ok}
 use Rattle.std.proofs.Math.Path.{refl, ap}
 use Rattle.std.proofs.Common.{◌∙◌, inl, inr, arith}
 use Rattle.std.proofs.Math.Bool.{true}
@@ -12,7 +12,6 @@ use Rattle.node_allocator.specs.Layout.{node_at, header_at}
 use Rattle.node_allocator.specs.Steps.{initialized}
 use Rattle.arena_laws.specs.Laws.{Outside, counts_stored}
 use Rattle.records.specs.declared.Header.{Header}
-use Rattle.records.specs.declared.Done.TheVariants as done
 use Rattle.records.specs.Records.{header_of, front_of, spare_of, padding_of}
 use Rattle.inspection.specs.Opening.{blank_of}
 use Rattle.inspection.specs.Room.{Shaped}
@@ -118,7 +117,7 @@ module _ (m n : ℕ) (ws : List ℕ) (shape : Shaped m n (length ws)) (blank : B
   started_listed = refl
 
   -- start answers yes, and its image is that one
-  pub start_agrees : (start_of m n ws ≡ done.Yes) × (start_image m n ws ≡ started m n ws)
+  pub start_agrees : (start_of m n ws ≡ Ok tt) × (start_image m n ws ≡ started m n ws)
   unfolding start_image done_image blank_of
   start_agrees =
       let zeros : zeros_at ws 0 (length ws) ≡ true = (zeros_exact ws 0 (length ws)).1 (λ k a b. blank k) in

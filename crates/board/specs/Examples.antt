@@ -8,12 +8,13 @@ use Rattle.keys.specs.Number.{number_of}
 use Rattle.keys.specs.Common.{common_of, common, bit_of}
 use Rattle.records.specs.Layout.{image_of}
 use Rattle.records.specs.Records.{header_of, front_of, spare_of, node_of, padding_of, record_from}
+use Rattle.descent.specs.Found.{stop_leaf}
 use Rattle.inspection.specs.Tests.{arena_ok, counts_ok, header_ok, top_ok, padding_ok, form_ok, node_ok, root_ok, live_value, free_node, free_value}
 use Rattle.inspection.specs.Visit.{live_of}
 use Rattle.inspection.specs.Opening.{open_shaped, open_of}
-use Rattle.records.specs.Numbers.{done_number, got_number, got_value, refusal_number}
+use Rattle.records.specs.Numbers.{answer_number, got_value, refusal_number}
 use Rattle.descent.specs.Descent.{lookup_turn, child_of, turn_at, descend, from_root}
-use Rattle.lookup.specs.Get.{live_target, stop_target, opened_target, target_of, target_got, get_of}
+use Rattle.lookup.specs.Get.{live_target, stop_target, opened_target, target_of, target_got, get_of, leaf_target}
 use Rattle.full_check.specs.Walk.{side_ok, visit_ok, leaf_walk, joined, walk_of}
 use Rattle.full_check.specs.Chains.{chain_of, node_chain, value_chain, nodes_unused, values_unused}
 use Rattle.full_check.specs.Check.{root_walk, tree_ok, records_ok, opened_check, check_shape, check_of}
@@ -52,7 +53,7 @@ B = record { high = 0; low = 0 }
 -- the number, and an output of so many bytes that hold 7
 abbrev got : List ℕ → Key → ℕ → ℕ × List ℕ
 got img key many =
-    (got_number (lookup_of 1 2 (image_of img) key (replicate many 7)), output_after (lookup_of 1 2 (image_of img) key (replicate many 7)) (replicate many 7))
+    (answer_number (lookup_of 1 2 (image_of img) key (replicate many 7)), output_after (lookup_of 1 2 (image_of img) key (replicate many 7)) (replicate many 7))
 
 -- found; absent; a value record that was bent; a short output; an image of one byte less
 pub looked :
@@ -62,14 +63,14 @@ pub looked :
     × (got (bytes_of held) A 15 ≡ (1, replicate 15 7))
     × (got (drop 1 (bytes_of held)) A 17 ≡ (1, replicate 17 7))
 unfolding
-    lookup_of output_after value_bytes got_number got_value refusal_number image_of words get_of target_got target_of opened_target stop_target live_target live_of live_value
+    lookup_of output_after value_bytes answer_number got_value refusal_number image_of words get_of target_got target_of opened_target leaf_target stop_leaf live_target live_of live_value
     open_of open_shaped header_of front_of spare_of wide_at top_ok header_ok counts_ok arena_ok from_root root_ok descend turn_at lookup_turn child_of node_of padding_of padding_ok
     node_ok form_ok number_of common common_of bit_of record_from
 looked = (refl, refl, refl, refl, refl)
 
 abbrev checked : List ℕ → ℕ → ℕ × List ℕ
 checked img many =
-    (done_number (board_check 1 2 (image_of img) (replicate many 7)), scratch_after 1 (board_check 1 2 (image_of img) (replicate many 7)) (replicate many 7))
+    (answer_number (board_check 1 2 (image_of img) (replicate many 7)), scratch_after 1 (board_check 1 2 (image_of img) (replicate many 7)) (replicate many 7))
 
 -- accepted; the same bent value record; a short scratch; an image of one byte less
 pub check :
@@ -78,7 +79,7 @@ pub check :
     × (checked (bytes_of held) 3 ≡ (1, replicate 3 7))
     × (checked (drop 1 (bytes_of held)) 7 ≡ (1, replicate 7 7))
 unfolding
-    board_check scratch_after image_of words check_of check_shape open_of open_shaped opened_check done_number refusal_number header_of front_of spare_of wide_at top_ok header_ok counts_ok arena_ok
+    board_check scratch_after image_of words check_of check_shape open_of open_shaped opened_check answer_number refusal_number header_of front_of spare_of wide_at top_ok header_ok counts_ok arena_ok
     records_ok tree_ok root_ok root_walk walk_of visit_ok node_of padding_of padding_ok node_ok form_ok side_ok number_of common common_of bit_of joined leaf_walk live_value record_from
     node_chain value_chain chain_of free_node free_value nodes_unused values_unused zeros_at
 check = (refl, refl, refl, refl)

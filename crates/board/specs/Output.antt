@@ -1,15 +1,14 @@
 -- The output of a lookup, byte by byte: 16 bytes in the image's order, the first word first and the lowest byte first. Shorter is refusal 1, which touches nothing; after any other refusal the
 -- 16 bytes are zero; what lies behind them is kept.
-use Rattle.std.specs.Prelude.{◌≡◌, refl, List, [], ◌∷◌, ◌++◌, cond, ℕ, ◌+◌, ◌/◌, ◌%◌, ◌≤◌, ◌<◌, length, drop, eqb, leb}
+use Rattle.std.specs.Prelude.{◌≡◌, refl, List, [], ◌∷◌, ◌++◌, cond, ℕ, ◌+◌, ◌/◌, ◌%◌, ◌≤◌, ◌<◌, length, drop, eqb, leb, Err, Result}
 use Rattle.std.proofs.Common.{arith, le-leb}
 use Rattle.std.proofs.lemmas.Bool.{lt-leb}
+use Rattle.records.specs.declared.Refusal.{Refusal}
 use Rattle.words.specs.Words.{put_word}
 use Rattle.keys.specs.declared.Key.{Key}
 use Rattle.records.specs.declared.Value.{Value}
 use Rattle.records.specs.declared.Refusal.TheVariants as no
-use Rattle.records.specs.declared.Got.{Got}
-use Rattle.records.specs.declared.Got.TheVariants as got
-use Rattle.records.specs.Numbers.{got_number, got_value}
+use Rattle.records.specs.Numbers.{answer_number, got_value}
 use Rattle.lookup.specs.Get.{get_of}
 
 -- ---- the bytes
@@ -29,21 +28,21 @@ value_bytes v = wide_bytes v.first ++ wide_bytes v.second
 -- ---- the calls
 
 -- an output of fewer than 16 bytes is refusal 1, before anything else
-unfoldable pub lookup_of : ℕ → ℕ → List ℕ → Key → List ℕ → Got
-lookup_of m n ws key out = cond (leb 16 (length out)) (get_of m n ws key) (got.Refused no.Shape)
+unfoldable pub lookup_of : ℕ → ℕ → List ℕ → Key → List ℕ → Result Value Refusal
+lookup_of m n ws key out = cond (leb 16 (length out)) (get_of m n ws key) (Err no.Shape)
 
 module _ (m n : ℕ) (ws : List ℕ) (key : Key) (out : List ℕ) where
   pub long_enough : 16 ≤ length out → lookup_of m n ws key out ≡ get_of m n ws key
   unfolding lookup_of
   long_enough l = simp (le-leb 16 (length out) l)
 
-  pub too_short : length out < 16 → lookup_of m n ws key out ≡ got.Refused no.Shape
+  pub too_short : length out < 16 → lookup_of m n ws key out ≡ Err no.Shape
   unfolding lookup_of
   too_short l = simp (lt-leb 16 (length out) l)
 
 -- the output afterwards: the value of the answer, which is zeros where the answer is a refusal
-unfoldable pub output_after : Got → List ℕ → List ℕ
-output_after a out = cond (eqb (got_number a) 1) out (value_bytes (got_value a) ++ drop 16 out)
+unfoldable pub output_after : Result Value Refusal → List ℕ → List ℕ
+output_after a out = cond (eqb (answer_number a) 1) out (value_bytes (got_value a) ++ drop 16 out)
 
 -- ---- stored byte by byte
 

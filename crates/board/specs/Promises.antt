@@ -1,18 +1,17 @@
 -- What the rules promise of the board's calls: each number "when, and only then", in the bytes that C lends; what the output holds after each; and that no second outcome fits. (The image is only
 -- read: both contracts lend it for reading.)
-use Rattle.std.specs.Prelude.{◌≡◌, refl, List, ◌∷◌, ◌++◌, true, false, ◌≢◌, ◌↔◌, ◌⊎◌, ℕ, ◌+◌, ◌*◌, ◌/◌, ◌%◌, ◌≤◌, ◌<◌, length, drop, replicate}
+use Rattle.std.specs.Prelude.{◌≡◌, refl, List, ◌∷◌, ◌++◌, true, false, ◌≢◌, ◌↔◌, ◌⊎◌, ℕ, ◌+◌, ◌*◌, ◌/◌, ◌%◌, ◌≤◌, ◌<◌, length, drop, replicate, Err, Ok, Result}
 use Rattle.std.proofs.Common.{sym, ap, ◌∙◌, inl, inr, arith, lt_of_not-le, eq-eqb, ne_eqb}
 use Rattle.std.proofs.Math.Decide.{dec_le}
+use Rattle.records.specs.declared.Refusal.{Refusal}
 use Rattle.words.specs.Words.{words, words_length}
 use Rattle.keys.specs.declared.Key.{Key}
 use Rattle.records.specs.declared.Value.{Value}
-use Rattle.records.specs.declared.Got.{Got}
-use Rattle.records.specs.declared.Got.TheVariants as got
 use Rattle.records.specs.Layout.{image_of}
 use Rattle.records.specs.Records.{header_of}
 use Rattle.inspection.specs.Tests.{shape_ok, top_ok}
 use Rattle.inspection.specs.Room.{shaped, shaped_whole, whole_words}
-use Rattle.records.specs.Numbers.{refusal_number, done_number, got_number, got_value}
+use Rattle.records.specs.Numbers.{refusal_number, answer_number, got_value}
 use Rattle.lookup.specs.Get.{get_of}
 use Rattle.lookup.specs.Promises.{get_numbers}
 use Rattle.full_check.specs.Check.{records_ok}
@@ -35,42 +34,42 @@ pub record LookupNumbers (m n : ℕ) (ws : List ℕ) (key : Key) (out : List ℕ
   -- M or N out of limits, or the length differs, or the output has fewer than 16 bytes
   pub shape : (number ≡ 1) ↔ ((shape_ok m n (length ws) ≡ false) ⊎ (length out < 16))
   -- else it is the number of the map's own lookup, whose cases are in `lookup`'s promises
-  pub other : 16 ≤ length out → number ≡ got_number (get_of m n ws key)
+  pub other : 16 ≤ length out → number ≡ answer_number (get_of m n ws key)
 
-pub lookup_numbers : (m n : ℕ) (ws : List ℕ) (key : Key) (out : List ℕ) → LookupNumbers m n ws key out (got_number (lookup_of m n ws key out))
-unfolding got_number refusal_number
+pub lookup_numbers : (m n : ℕ) (ws : List ℕ) (key : Key) (out : List ℕ) → LookupNumbers m n ws key out (answer_number (lookup_of m n ws key out))
+unfolding answer_number refusal_number
 lookup_numbers m n ws key out = go (dec_le 16 (length out))
   where
-    go : Dec (16 ≤ length out) → LookupNumbers m n ws key out (got_number (lookup_of m n ws key out))
+    go : Dec (16 ≤ length out) → LookupNumbers m n ws key out (answer_number (lookup_of m n ws key out))
     go (yes l) =
-        let same = ap got_number (long_enough m n ws key out l) in
+        let same = ap answer_number (long_enough m n ws key out l) in
         record {
           shape = (λ e. inl ((get_numbers m n ws key).shape.0 (sym same ∙ e)), λ c. same ∙ back c);
           other = λ z. same;
         }
       where
-        back : (shape_ok m n (length ws) ≡ false) ⊎ (length out < 16) → got_number (get_of m n ws key) ≡ 1
+        back : (shape_ok m n (length ws) ≡ false) ⊎ (length out < 16) → answer_number (get_of m n ws key) ≡ 1
         back (inl f) = (get_numbers m n ws key).shape.1 f
         back (inr k) = absurd (omega arith)
     go (no k) =
-        let short = ap got_number (too_short m n ws key out (lt_of_not-le k)) in
+        let short = ap answer_number (too_short m n ws key out (lt_of_not-le k)) in
         record { shape = (λ e. inr (lt_of_not-le k), λ c. short); other = λ z. absurd (k z) }
 
 -- the output after each answer
-pub record Output (a : Got) (before after : List ℕ) : Type 0 where
-  pub kept : got_number a ≡ 1 → after ≡ before
-  pub zeros : got_number a ≢ 0 → got_number a ≢ 1 → after ≡ replicate 16 0 ++ drop 16 before
-  pub value : (v : Value) → a ≡ got.Found v → after ≡ value_bytes v ++ drop 16 before
+pub record Output (a : Result Value Refusal) (before after : List ℕ) : Type 0 where
+  pub kept : answer_number a ≡ 1 → after ≡ before
+  pub zeros : answer_number a ≢ 0 → answer_number a ≢ 1 → after ≡ replicate 16 0 ++ drop 16 before
+  pub value : (v : Value) → a ≡ Ok v → after ≡ value_bytes v ++ drop 16 before
 
-pub output : (a : Got) (before : List ℕ) → Output a before (output_after a before)
-unfolding output_after got_number got_value value_bytes
-output (got.Found v) before =
+pub output : (a : Result Value Refusal) (before : List ℕ) → Output a before (output_after a before)
+unfolding output_after answer_number got_value value_bytes
+output (Ok v) before =
     record {
       kept = λ e. absurd (omega arith);
       zeros = λ n k. absurd (n refl);
-      value = λ w e. ap (λ (a : Got). value_bytes (got_value a) ++ drop 16 before) e;
+      value = λ w e. ap (λ (a : Result Value Refusal). value_bytes (got_value a) ++ drop 16 before) e;
     }
-output (got.Refused r) before =
+output (Err r) before =
     record {
       kept = λ e. simp (eq-eqb _ _ e);
       zeros = λ n k. simp (ne_eqb _ _ k);
@@ -90,7 +89,7 @@ value_words v rest =
 
 -- what a lookup's contract allows: the number, and the output afterwards
 pub record Looked (m n : ℕ) (img : List ℕ) (key : Key) (before : List ℕ) (number : ℕ) (after : List ℕ) : Type 0 where
-  pub answer : number ≡ got_number (lookup_of m n (image_of img) key before)
+  pub answer : number ≡ answer_number (lookup_of m n (image_of img) key before)
   pub output : after ≡ output_after (lookup_of m n (image_of img) key before) before
 
 -- no second outcome fits
@@ -111,7 +110,7 @@ pub record CheckNumbers (m n : ℕ) (ws scratch : List ℕ) (number : ℕ) : Typ
       ↔ ((shape_ok m n (length ws) ≡ true) × (4 * m ≤ length scratch) × (top_ok m n ws ≡ true) × (records_ok m n (header_of n ws) ws ≡ true))
   pub no_other : number ≤ 2
 
-pub check_numbers : (m n : ℕ) (ws scratch : List ℕ) → CheckNumbers m n ws scratch (done_number (board_check m n ws scratch))
+pub check_numbers : (m n : ℕ) (ws scratch : List ℕ) → CheckNumbers m n ws scratch (answer_number (board_check m n ws scratch))
 unfolding board_check
 check_numbers m n ws scratch =
     let k = numbers m n ws (words scratch) in
@@ -144,7 +143,7 @@ check_numbers m n ws scratch =
 
 -- what a check's contract allows: the number, and the scratch afterwards
 pub record Checked (m n : ℕ) (img before : List ℕ) (number : ℕ) (after : List ℕ) : Type 0 where
-  pub answer : number ≡ done_number (board_check m n (image_of img) before)
+  pub answer : number ≡ answer_number (board_check m n (image_of img) before)
   pub scratch : after ≡ scratch_after m (board_check m n (image_of img) before) before
 
 -- no second outcome fits

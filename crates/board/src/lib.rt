@@ -6,14 +6,14 @@
 
 ghost use Rattle.std.specs.Prelude.{◌≡◌, ◌++◌, ◌+◌, ◌≤◌, length, drop};
 ghost use Rattle.records.specs.Layout.{image_of};
-ghost use Rattle.records.specs.Numbers.{done_number, got_number};
+ghost use Rattle.records.specs.Numbers.{answer_number};
 ghost use Rattle.board.specs.Output.{put_wide, value_bytes, output_after, lookup_of};
 ghost use Rattle.board.specs.Scratch.{board_check, scratch_after};
 
 use full_check::check;
 use keys::Key;
 use lookup::get::get;
-use records::{Done, Got, Refusal, Value, number};
+use records::{Refusal, Value, answer_number, number};
 
 // The eight bytes of a 64-bit word, its low word first.
 fn put_wide(out: &mut [u8], at: usize, v: u64)
@@ -34,19 +34,18 @@ fn put_value(out: &mut [u8], v: Value)
 }
 
 // A lookup's number, and its value or zeros in the first 16 bytes; after refusal 1 no byte is touched.
-fn give(a: Got, out: &mut [u8]) -> u32
+fn give(a: Result<Value, Refusal>, out: &mut [u8]) -> u32
     requires { 16 ≤ length out.old }
-    ensures answer { result ≡ got_number a }
+    ensures answer { result ≡ answer_number a }
     ensures output { out.new ≡ output_after a out.old }
 {
     match a {
-        Got::Found(v) => {
+        Ok(v) => {
             put_value(out, v);
             0
         }
-        Got::Refused(r) => {
-            let refused = number(r);
-            if refused != 1 {
+        Err(r) => {
+            if r != Refusal::Shape {
                 put_value(
                     out,
                     Value {
@@ -55,30 +54,26 @@ fn give(a: Got, out: &mut [u8]) -> u32
                     },
                 );
             }
-            refused
+            number(r)
         }
     }
 }
 
 // The value of a key: 0, and 16 bytes of `out` are the value; or a refusal's number. An output of fewer than 16 bytes is refusal 1.
 pub fn logfringe_get(img: &[u8], m: u32, n: u32, high: u64, low: u64, out: &mut [u8]) -> u32
-    ensures answer { result ≡ got_number (lookup_of m n (image_of img.now) (record { high = high; low = low }) out.old) }
+    ensures answer { result ≡ answer_number (lookup_of m n (image_of img.now) (record { high = high; low = low }) out.old) }
     ensures output { out.new ≡ output_after (lookup_of m n (image_of img.now) (record { high = high; low = low }) out.old) out.old }
 {
-    if 16 <= out.len() {
-        let answer = get(img, m, n, Key { high, low });
-        return give(answer, out);
+    if out.len() < 16 {
+        return number(Refusal::Shape);
     }
-    1 // refusal 1
+    give(get(img, m, n, Key { high, low }), out)
 }
 
 // The full check: 0 exactly if the header and all records pass; or a refusal's number. A scratch of fewer than 4M bytes is refusal 1.
 pub fn logfringe_check(img: &[u8], m: u32, n: u32, scratch: &mut [u8]) -> u32
-    ensures answer { result ≡ done_number (board_check m n (image_of img.now) scratch.old) }
+    ensures answer { result ≡ answer_number (board_check m n (image_of img.now) scratch.old) }
     ensures scratch { scratch.new ≡ scratch_after m (board_check m n (image_of img.now) scratch.old) scratch.old }
 {
-    match check(img, m, n, scratch) {
-        Done::Yes => 0,
-        Done::Refused(r) => number(r),
-    }
+    answer_number(check(img, m, n, scratch))
 }

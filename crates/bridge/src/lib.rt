@@ -7,31 +7,18 @@
 pub mod list; // list.rt: listings
 
 use keys::Key;
-use records::{Count, Done, Entry, Got, Place, Value, number};
+use records::{NodeIndex, Refusal, Value, answer_number, number};
 
-pub fn done(a: Done) -> u32 {
+// What came with an answer, or its number in the upper half.
+fn packed(a: Result<u64, Refusal>) -> u64 {
     match a {
-        Done::Yes => 0,
-        Done::Refused(r) => number(r),
+        Ok(k) => k,
+        Err(r) => (number(r) as u64) * 4294967296,
     }
 }
 
-fn joined(upper: u32, lower: u32) -> u64 {
-    (upper as u64) * 4294967296 + (lower as u64)
-}
-
-fn place(a: Place) -> u64 {
-    match a {
-        Place::At(i) => joined(0, i.0),
-        Place::Refused(r) => joined(number(r), 0),
-    }
-}
-
-fn count(a: Count) -> u64 {
-    match a {
-        Count::Is(k) => k,
-        Count::Refused(r) => joined(number(r), 0),
-    }
+fn place(a: Result<NodeIndex, Refusal>) -> u64 {
+    packed(a.map(|i| i.0 as u64))
 }
 
 fn put_value(out: &mut [u8], at: usize, v: Value) {
@@ -41,41 +28,35 @@ fn put_value(out: &mut [u8], at: usize, v: Value) {
     }
 }
 
-fn got(a: Got, out: &mut [u8]) -> u32 {
-    match a {
-        Got::Found(v) => {
-            put_value(out, 0, v);
-            0
-        }
-        Got::Refused(r) => number(r),
+fn got(a: Result<Value, Refusal>, out: &mut [u8]) -> u32 {
+    if let Ok(v) = a {
+        put_value(out, 0, v);
     }
+    answer_number(a)
 }
 
-pub fn entry(a: Entry, out: &mut [u8]) -> u32 {
-    match a {
-        Entry::Is(k, v) => {
-            words::set_wide(out, 0, k.high);
-            words::set_wide(out, 2, k.low);
-            put_value(out, 4, v);
-            0
-        }
-        Entry::Refused(r) => number(r),
+pub fn entry(a: Result<(Key, Value), Refusal>, out: &mut [u8]) -> u32 {
+    if let Ok((k, v)) = a {
+        words::set_wide(out, 0, k.high);
+        words::set_wide(out, 2, k.low);
+        put_value(out, 4, v);
     }
+    answer_number(a)
 }
 
 #[unsafe(no_mangle)]
 pub extern "C" fn bridge_start(img: &mut [u8], m: u32, n: u32) -> u32 {
-    done(lookup::start::start(img, m, n))
+    answer_number(lookup::start::start(img, m, n))
 }
 
 #[unsafe(no_mangle)]
 pub extern "C" fn bridge_len(img: &[u8], m: u32, n: u32) -> u64 {
-    count(lookup::start::len(img, m, n))
+    packed(lookup::start::len(img, m, n))
 }
 
 #[unsafe(no_mangle)]
 pub extern "C" fn bridge_capacity(img: &[u8], m: u32, n: u32) -> u64 {
-    count(lookup::start::capacity(img, m, n))
+    packed(lookup::start::capacity(img, m, n))
 }
 
 #[unsafe(no_mangle)]
@@ -100,12 +81,12 @@ pub extern "C" fn bridge_set(
     first: u64,
     second: u64,
 ) -> u32 {
-    done(lookup::get::set(img, m, n, Key { high, low }, Value { first, second }))
+    answer_number(lookup::get::set(img, m, n, Key { high, low }, Value { first, second }))
 }
 
 #[unsafe(no_mangle)]
 pub extern "C" fn bridge_contains(img: &[u8], m: u32, n: u32, high: u64, low: u64) -> u32 {
-    done(lookup::get::contains(img, m, n, Key { high, low }))
+    answer_number(lookup::get::contains(img, m, n, Key { high, low }))
 }
 
 #[unsafe(no_mangle)]
@@ -150,5 +131,5 @@ pub extern "C" fn bridge_remove(
 
 #[unsafe(no_mangle)]
 pub extern "C" fn bridge_check(img: &[u8], m: u32, n: u32, scratch: &mut [u8]) -> u32 {
-    done(full_check::check(img, m, n, scratch))
+    answer_number(full_check::check(img, m, n, scratch))
 }

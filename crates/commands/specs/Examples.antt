@@ -1,10 +1,7 @@
 -- Lines and answers, and what is kept of a line that has begun, computed.
-use Rattle.std.specs.Prelude.{◌≡◌, refl, List, [], ◌∷◌, ◌++◌, true, false, ℕ, ◌^◌, replicate}
+use Rattle.std.specs.Prelude.{◌≡◌, refl, List, [], ◌∷◌, ◌++◌, true, false, ℕ, ◌^◌, replicate, Err, Ok}
 use Rattle.records.specs.Numbers.{refusal_number}
 use Rattle.records.specs.declared.Refusal.TheVariants as no
-use Rattle.records.specs.declared.Place.TheVariants as place
-use Rattle.records.specs.declared.Got.TheVariants as got
-use Rattle.records.specs.declared.Done.TheVariants as done
 use Rattle.texts.specs.declared.Command.TheVariants as command
 use Rattle.texts.specs.Digits.{glyph, digits, width_of, decimal_of, is_digit, digit_of, digits_at, value_at}
 use Rattle.texts.specs.Lines.{word_at, field_at, one_field, two_fields, key_asked, both_asked, alone_asked, letter_asked, command_of}
@@ -37,16 +34,16 @@ worked_lines = (refl, refl, refl, refl, refl, refl, refl, refl, refl, refl, refl
 
 pub worked_answers :
     -- `ok 4`
-    (place_text (place.At (record { 0 = 4 })) ≡ 111 ∷ 107 ∷ 32 ∷ 52 ∷ 10 ∷ [])
+    (place_text (Ok (record { 0 = 4 })) ≡ 111 ∷ 107 ∷ 32 ∷ 52 ∷ 10 ∷ [])
     -- `ok 512`
-    × (place_text (place.At (record { 0 = 512 })) ≡ 111 ∷ 107 ∷ 32 ∷ 53 ∷ 49 ∷ 50 ∷ 10 ∷ [])
+    × (place_text (Ok (record { 0 = 512 })) ≡ 111 ∷ 107 ∷ 32 ∷ 53 ∷ 49 ∷ 50 ∷ 10 ∷ [])
     -- `full`, `none`, and what the program's own map never gives
-    × (place_text (place.Refused no.Full) ≡ 102 ∷ 117 ∷ 108 ∷ 108 ∷ 10 ∷ [])
-    × (val_text (got.Refused no.Absent) ≡ 110 ∷ 111 ∷ 110 ∷ 101 ∷ 10 ∷ [])
-    × (gone_text (got.Refused no.Damaged) ≡ 98 ∷ 97 ∷ 100 ∷ 10 ∷ [])
-    × (done_text done.Yes ≡ 115 ∷ 101 ∷ 116 ∷ 10 ∷ [])
+    × (place_text (Err no.Full) ≡ 102 ∷ 117 ∷ 108 ∷ 108 ∷ 10 ∷ [])
+    × (val_text (Err no.Absent) ≡ 110 ∷ 111 ∷ 110 ∷ 101 ∷ 10 ∷ [])
+    × (gone_text (Err no.Damaged) ≡ 98 ∷ 97 ∷ 100 ∷ 10 ∷ [])
+    × (done_text (Ok tt) ≡ 115 ∷ 101 ∷ 116 ∷ 10 ∷ [])
     -- `gone` and the value 1
-    × (gone_text (got.Found (record { first = 0; second = 1 })) ≡ (103 ∷ 111 ∷ 110 ∷ 101 ∷ 32 ∷ []) ++ zeros31 49 ++ (10 ∷ []))
+    × (gone_text (Ok (record { first = 0; second = 1 })) ≡ (103 ∷ 111 ∷ 110 ∷ 101 ∷ 32 ∷ []) ++ zeros31 49 ++ (10 ∷ []))
     -- `0 F` as a line of a listing, and its end
     × (entry_text (record { high = 0; low = 0 }) (record { first = 0; second = 15 }) ≡ zeros31 48 ++ (32 ∷ []) ++ zeros31 102 ++ (10 ∷ []))
     × (end_text 2 ≡ 101 ∷ 110 ∷ 100 ∷ 32 ∷ 50 ∷ 10 ∷ [])

@@ -6,7 +6,6 @@ ghost use Rattle.commands.specs.Answers.{all_text};
 
 use crate::answer::answer_close;
 use listing::step::{list, next};
-use records::Entry;
 use texts::print::{put_end, put_entry};
 
 // At most 256 lines of 66 bytes, and the last.
@@ -15,20 +14,17 @@ pub fn put_all(img: &[u8], out: &mut [u8], at: usize) -> usize
     ensures room { result ≤ at + 16911 }
     ensures text { Written out.old out.new at result (all_text 256 512 (image_of img.now)) }
 {
-    let made = list(img, 256, 512);
-    let mut p = made.position;
+    let mut p = list(img, 256, 512).position;
     let mut place = at;
     let mut count: u32 = 0;
     while count < 256 {
         let stepped = next(img, 256, 512, p);
-        let after = stepped.position;
-        let given = stepped.entry;
-        p = after;
-        match given {
-            Entry::Is(key, v) => {
+        p = stepped.position;
+        match stepped.entry {
+            Ok((key, v)) => {
                 place = put_entry(out, place, key, v);
             }
-            Entry::Refused(r) => {
+            Err(r) => {
                 return answer_close(out, place, r, count);
             }
         }

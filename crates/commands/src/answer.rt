@@ -1,11 +1,10 @@
 // What a call's answer is written as. Each answer of these functions is under 80 bytes.
 ghost use Rattle.std.specs.Prelude.{◌+◌, ◌≤◌, length};
-ghost use Rattle.records.specs.declared.Got.TheVariants.{Found};
-ghost use Rattle.records.specs.declared.Place.TheVariants.{At};
 ghost use Rattle.texts.specs.Put.{Written};
 ghost use Rattle.commands.specs.Answers.{place_text, gone_text, val_text, one_text, close_text};
 
-use records::{Entry, NodeIndex, Refusal, Value, number};
+use keys::Key;
+use records::{NodeIndex, Refusal, Value, number};
 use texts::print::{
     put_bad, put_byte, put_decimal, put_end, put_entry, put_four, put_refusal, put_value,
 };
@@ -14,7 +13,7 @@ use texts::print::{
 pub fn put_index(out: &mut [u8], at: usize, i: NodeIndex) -> usize
     requires { at + 80 ≤ length out.old }
     ensures room { result ≤ at + 80 }
-    ensures text { Written out.old out.new at result (place_text (At i)) }
+    ensures text { Written out.old out.new at result (place_text (Ok i)) }
 {
     let a = put_byte(out, at, b'o');
     let b = put_byte(out, a, b'k');
@@ -27,7 +26,7 @@ pub fn put_index(out: &mut [u8], at: usize, i: NodeIndex) -> usize
 pub fn put_gone(out: &mut [u8], at: usize, v: Value) -> usize
     requires { at + 80 ≤ length out.old }
     ensures room { result ≤ at + 80 }
-    ensures text { Written out.old out.new at result (gone_text (Found v)) }
+    ensures text { Written out.old out.new at result (gone_text (Ok v)) }
 {
     let a = put_four(out, at, b'g', b'o', b'n', b'e');
     let b = put_byte(out, a, b' ');
@@ -38,21 +37,21 @@ pub fn put_gone(out: &mut [u8], at: usize, v: Value) -> usize
 pub fn put_val(out: &mut [u8], at: usize, v: Value) -> usize
     requires { at + 80 ≤ length out.old }
     ensures room { result ≤ at + 80 }
-    ensures text { Written out.old out.new at result (val_text (Found v)) }
+    ensures text { Written out.old out.new at result (val_text (Ok v)) }
 {
     let a = put_four(out, at, b'v', b'a', b'l', b' ');
     put_value(out, a, v)
 }
 
 // `K V` or `none`
-pub fn answer_entry(out: &mut [u8], at: usize, a: Entry) -> usize
+pub fn answer_entry(out: &mut [u8], at: usize, a: Result<(Key, Value), Refusal>) -> usize
     requires { at + 80 ≤ length out.old }
     ensures room { result ≤ at + 80 }
     ensures text { Written out.old out.new at result (one_text a) }
 {
     match a {
-        Entry::Is(key, v) => put_entry(out, at, key, v),
-        Entry::Refused(r) => put_refusal(out, at, r),
+        Ok((key, v)) => put_entry(out, at, key, v),
+        Err(r) => put_refusal(out, at, r),
     }
 }
 

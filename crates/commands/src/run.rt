@@ -1,7 +1,7 @@
 // A command on the map: the call, and its answer. M is 256 and N 512.
 ghost use Rattle.std.specs.Prelude.{◌+◌, ◌≤◌, length};
 ghost use Rattle.records.specs.Layout.{image_of};
-ghost use Rattle.records.specs.Numbers.{place_number, got_number, done_number};
+ghost use Rattle.records.specs.Numbers.{answer_number};
 ghost use Rattle.inspection.specs.Outcome.{Leaves};
 ghost use Rattle.lookup.specs.Get.{get_of, write_of, write_image};
 ghost use Rattle.insert.specs.Steps.{insert_of, insert_image};
@@ -15,7 +15,7 @@ use crate::answer::{answer_entry, put_gone, put_index, put_val};
 use keys::Key;
 use lookup::ends::{get_max, get_min};
 use lookup::get::{get, set};
-use records::{Done, Got, Place, Value};
+use records::Value;
 use texts::Command;
 use texts::parse::parse;
 use texts::print::{put_bad, put_four, put_refusal};
@@ -24,11 +24,11 @@ fn insert_line(img: &mut [u8], out: &mut [u8], at: usize, key: Key, v: Value) ->
     requires { at + 80 ≤ length out.old }
     ensures room { result ≤ at + 80 }
     ensures text { Written out.old out.new at result (place_text (insert_of 256 512 (image_of img.old) key)) }
-    ensures image { Leaves img.old img.new (place_number (insert_of 256 512 (image_of img.old) key)) (insert_image 256 512 (image_of img.old) key v) }
+    ensures image { Leaves img.old img.new (answer_number (insert_of 256 512 (image_of img.old) key)) (insert_image 256 512 (image_of img.old) key v) }
 {
     match insert::insert(img, 256, 512, key, v) {
-        Place::At(i) => put_index(out, at, i),
-        Place::Refused(r) => put_refusal(out, at, r),
+        Ok(i) => put_index(out, at, i),
+        Err(r) => put_refusal(out, at, r),
     }
 }
 
@@ -36,11 +36,11 @@ fn remove_line(img: &mut [u8], out: &mut [u8], at: usize, key: Key) -> usize
     requires { at + 80 ≤ length out.old }
     ensures room { result ≤ at + 80 }
     ensures text { Written out.old out.new at result (gone_text (remove_of 256 512 (image_of img.old) key)) }
-    ensures image { Leaves img.old img.new (got_number (remove_of 256 512 (image_of img.old) key)) (removed_image 256 512 (image_of img.old) key) }
+    ensures image { Leaves img.old img.new (answer_number (remove_of 256 512 (image_of img.old) key)) (removed_image 256 512 (image_of img.old) key) }
 {
     match remove::remove(img, 256, 512, key) {
-        Got::Found(v) => put_gone(out, at, v),
-        Got::Refused(r) => put_refusal(out, at, r),
+        Ok(v) => put_gone(out, at, v),
+        Err(r) => put_refusal(out, at, r),
     }
 }
 
@@ -48,11 +48,11 @@ fn write_line(img: &mut [u8], out: &mut [u8], at: usize, key: Key, v: Value) -> 
     requires { at + 80 ≤ length out.old }
     ensures room { result ≤ at + 80 }
     ensures text { Written out.old out.new at result (done_text (write_of 256 512 (image_of img.old) key)) }
-    ensures image { Leaves img.old img.new (done_number (write_of 256 512 (image_of img.old) key)) (write_image 256 512 (image_of img.old) key v) }
+    ensures image { Leaves img.old img.new (answer_number (write_of 256 512 (image_of img.old) key)) (write_image 256 512 (image_of img.old) key v) }
 {
     match set(img, 256, 512, key, v) {
-        Done::Yes => put_four(out, at, b's', b'e', b't', b'\n'),
-        Done::Refused(r) => put_refusal(out, at, r),
+        Ok(()) => put_four(out, at, b's', b'e', b't', b'\n'),
+        Err(r) => put_refusal(out, at, r),
     }
 }
 
@@ -62,8 +62,8 @@ fn get_line(img: &[u8], out: &mut [u8], at: usize, key: Key) -> usize
     ensures text { Written out.old out.new at result (val_text (get_of 256 512 (image_of img.now) key)) }
 {
     match get(img, 256, 512, key) {
-        Got::Found(v) => put_val(out, at, v),
-        Got::Refused(r) => put_refusal(out, at, r),
+        Ok(v) => put_val(out, at, v),
+        Err(r) => put_refusal(out, at, r),
     }
 }
 

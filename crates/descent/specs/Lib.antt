@@ -2,3 +2,4 @@
 pub mod Descent
 pub mod Laws
 pub mod Bits
+pub mod Found

@@ -7,12 +7,13 @@ ghost use Rattle.std.specs.Prelude.{◌≡◌, ◌+◌, ◌*◌, ◌<◌, ◌≤
 ghost use Rattle.words.specs.Words.{words};
 ghost use Rattle.inspection.specs.Room.{Room};
 ghost use Rattle.descent.specs.Bits.{all_bits};
+ghost use Rattle.descent.specs.Found.{stop_leaf};
 ghost use Rattle.descent.specs.Descent.{child_of, lookup_turn, bits_turn, turn_at, descend, find_of, leaf_of, end_of};
 
 use inspection::Visited;
 use inspection::visit::{root_ok, visit};
 use keys::{Key, Way, bit, goes, leading_equal};
-use records::{Header, Node, NodeIndex};
+use records::{Header, Node, NodeIndex, Refusal};
 
 // Why a descent stopped, and where: at a leaf that fits; at a node where the key parts from the map, with the number of bits that they share; in an
 // empty map; at damage.
@@ -22,6 +23,21 @@ pub enum Stop {
     Parted(NodeIndex, Node, u64),
     Empty,
     Damaged,
+}
+
+impl Stop {
+    // The leaf and its record; or absent, where the key parts from the map or the map is empty; or damaged.
+    #[tactic(auto, unfolding(crate::specs::Found::stop_leaf))]
+    pub fn leaf(self) -> Result<(NodeIndex, Node), Refusal>
+        ensures { result ≡ stop_leaf self }
+    {
+        match self {
+            Stop::Leaf(i, x) => Ok((i, x)),
+            Stop::Parted(_, _, _) => Err(Refusal::Absent),
+            Stop::Empty => Err(Refusal::Absent),
+            Stop::Damaged => Err(Refusal::Damaged),
+        }
+    }
 }
 
 // One node's answer: the child to go to and the least prefix length that it may have, or the end.

@@ -1,11 +1,8 @@
 -- The full check's answer, and the scratch afterwards: rules T15 and T17.
-use Rattle.std.specs.Prelude.{List, ◌++◌, Bool, true, false, cond, ◌&&◌, ℕ, length, replicate, drop, eqb, leb}
+use Rattle.std.specs.Prelude.{List, ◌++◌, Bool, true, false, cond, ◌&&◌, ℕ, length, replicate, drop, eqb, leb, Err, Ok, Result}
+use Rattle.records.specs.declared.Refusal.{Refusal}
 use Rattle.records.specs.declared.Header.{Header}
-use Rattle.inspection.specs.declared.Opened.{Opened}
-use Rattle.inspection.specs.declared.Opened.TheVariants.{Good, Shut}
 use Rattle.records.specs.declared.Refusal.TheVariants as no
-use Rattle.records.specs.declared.Done.{Done}
-use Rattle.records.specs.declared.Done.TheVariants as done
 use Rattle.inspection.specs.Tests.{shape_ok, root_ok}
 use Rattle.inspection.specs.Opening.{open_of}
 use Rattle.records.specs.Numbers.{zero_key}
@@ -30,17 +27,17 @@ unfoldable pub records_ok : ℕ → ℕ → Header → List ℕ → Bool
 records_ok m n h ws =
     tree_ok n h ws (unmarked m) && node_chain h ws && value_chain n h ws && nodes_unused n h ws && values_unused m n h ws
 
-unfoldable pub opened_check : ℕ → ℕ → List ℕ → Opened → Done
-opened_check m n ws (Good h) = cond (records_ok m n h ws) done.Yes (done.Refused no.Damaged)
-opened_check m n ws (Shut r) = done.Refused r
+unfoldable pub opened_check : ℕ → ℕ → List ℕ → Result Header Refusal → Result Unit Refusal
+opened_check m n ws (Ok h) = cond (records_ok m n h ws) (Ok tt) (Err no.Damaged)
+opened_check m n ws (Err r) = Err r
 
 -- the shape, a short scratch included
 unfoldable pub check_shape : ℕ → ℕ → List ℕ → List ℕ → Bool
 check_shape m n ws scratch = shape_ok m n (length ws) && leb m (length scratch)
 
 -- the shape comes before everything; then the header and the records
-unfoldable pub check_of : ℕ → ℕ → List ℕ → List ℕ → Done
-check_of m n ws scratch = cond (check_shape m n ws scratch) (opened_check m n ws (open_of m n ws)) (done.Refused no.Shape)
+unfoldable pub check_of : ℕ → ℕ → List ℕ → List ℕ → Result Unit Refusal
+check_of m n ws scratch = cond (check_shape m n ws scratch) (opened_check m n ws (open_of m n ws)) (Err no.Shape)
 
 -- the first m words are zero, the rest kept
 unfoldable pub cleared : ℕ → List ℕ → List ℕ

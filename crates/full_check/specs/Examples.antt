@@ -8,7 +8,7 @@ use Rattle.keys.specs.Common.{common_of, common, bit_of}
 use Rattle.records.specs.Records.{header_of, front_of, spare_of, node_of, padding_of, record_from}
 use Rattle.inspection.specs.Tests.{arena_ok, counts_ok, header_ok, top_ok, padding_ok, form_ok, node_ok, root_ok, live_value, free_node, free_value}
 use Rattle.inspection.specs.Opening.{open_shaped, open_of}
-use Rattle.records.specs.Numbers.{done_number, refusal_number}
+use Rattle.records.specs.Numbers.{answer_number, refusal_number}
 use Rattle.full_check.specs.Walk.{side_ok, visit_ok, leaf_walk, joined, walk_of}
 use Rattle.full_check.specs.Chains.{chain_of, node_chain, value_chain, nodes_unused, values_unused}
 use Rattle.full_check.specs.Check.{root_walk, tree_ok, records_ok, opened_check, check_shape, check_of}
@@ -18,7 +18,7 @@ abbrev scratch : List ℕ
 scratch = 7 ∷ 7 ∷ 7 ∷ 7 ∷ []
 
 abbrev number_for : List ℕ → ℕ
-number_for ws = done_number (check_of 4 8 ws scratch)
+number_for ws = answer_number (check_of 4 8 ws scratch)
 
 abbrev nil : ℕ → List ℕ
 nil n = replicate n 0
@@ -75,7 +75,7 @@ pub accepted :
     (number_for started ≡ 0)
     × (number_for held ≡ 0)
     × (number_for removed ≡ 0)
-unfolding check_of check_shape open_of open_shaped opened_check done_number refusal_number header_of front_of spare_of wide_at top_ok header_ok counts_ok arena_ok root_ok
+unfolding check_of check_shape open_of open_shaped opened_check answer_number refusal_number header_of front_of spare_of wide_at top_ok header_ok counts_ok arena_ok root_ok
     records_ok tree_ok root_walk walk_of visit_ok node_of padding_of padding_ok node_ok form_ok side_ok number_of common common_of bit_of joined leaf_walk live_value record_from
     node_chain value_chain chain_of free_node free_value nodes_unused values_unused zeros_at
 accepted = (refl, refl, refl)
@@ -84,8 +84,8 @@ accepted = (refl, refl, refl)
 pub misshapen :
     (number_for (0 ∷ held) ≡ 1)
     × (number_for (drop 1 held) ≡ 1)
-    × (done_number (check_of 4 8 held (drop 1 scratch)) ≡ 1)
-unfolding check_of check_shape done_number refusal_number
+    × (answer_number (check_of 4 8 held (drop 1 scratch)) ≡ 1)
+unfolding check_of check_shape answer_number refusal_number
 misshapen = (refl, refl, refl)
 
 pub damaged :
@@ -104,7 +104,7 @@ pub damaged :
     × (number_for (set removed 20 6) ≡ 2)
     × (number_for (set removed 32 2) ≡ 2)
     × (number_for unreached ≡ 2)
-unfolding check_of check_shape open_of open_shaped opened_check done_number refusal_number header_of front_of spare_of wide_at top_ok header_ok counts_ok arena_ok root_ok
+unfolding check_of check_shape open_of open_shaped opened_check answer_number refusal_number header_of front_of spare_of wide_at top_ok header_ok counts_ok arena_ok root_ok
     records_ok tree_ok root_walk walk_of visit_ok node_of padding_of padding_ok node_ok form_ok side_ok number_of common common_of bit_of joined leaf_walk live_value record_from
     node_chain value_chain chain_of free_node free_value nodes_unused values_unused zeros_at
 damaged = (refl, refl, refl, refl, refl, refl, refl, refl, refl)

@@ -1,5 +1,5 @@
 -- What is promised of the full check's outcome: its numbers, each "when, and only then", and that no second outcome fits. (The image is only read: the contract lends it for reading.)
-use Rattle.std.specs.Prelude.{◌≡◌, List, ◌++◌, Bool, ◌≢◌, ◌↔◌, ◌⊎◌, ℕ, ◌*◌, ◌≤◌, ◌<◌, drop}
+use Rattle.std.specs.Prelude.{◌≡◌, List, ◌++◌, Bool, ◌≢◌, ◌↔◌, ◌⊎◌, ℕ, ◌*◌, ◌≤◌, ◌<◌, drop, Err}
 use Rattle.std.proofs.Math.Path.{refl}
 use Rattle.std.proofs.Common.{sym, ◌∙◌, true≢false, inl, inr, arith, lt_of_not-le}
 use Rattle.std.proofs.Math.Bool.{true, false}
@@ -8,11 +8,10 @@ use Rattle.std.proofs.Math.ListN.{length}
 use borrow.Author.Tests.{le-leb, lt-leb}
 use Rattle.words.specs.Words.{words, Bytes}
 use Rattle.records.specs.declared.Refusal.TheVariants as no
-use Rattle.records.specs.declared.Done.TheVariants as done
 use Rattle.records.specs.Records.{header_of}
 use Rattle.inspection.specs.Tests.{shape_ok, top_ok}
 use Rattle.inspection.specs.Opening.{open_shaped, open_of}
-use Rattle.records.specs.Numbers.{refusal_number, done_number}
+use Rattle.records.specs.Numbers.{refusal_number, answer_number}
 use Rattle.full_check.specs.Check.{unmarked, records_ok, opened_check, check_shape, check_of, check_scratch}
 use Rattle.full_check.specs.Scratch.{ScratchLeft, left_cleared, one_scratch}
 
@@ -32,14 +31,14 @@ pub record Numbers (m n : ℕ) (ws scratch : List ℕ) (number : ℕ) : Type 0 w
 module _ (m n : ℕ) (ws scratch : List ℕ) where
   -- the three ways in which a check goes
   data Goes : Type 0 where
-    misshapen : (shape_ok m n (length ws) ≡ false) ⊎ (length scratch < m) → done_number (check_of m n ws scratch) ≡ 1 → Goes
+    misshapen : (shape_ok m n (length ws) ≡ false) ⊎ (length scratch < m) → answer_number (check_of m n ws scratch) ≡ 1 → Goes
     unsound : shape_ok m n (length ws) ≡ true → m ≤ length scratch
-        → (top_ok m n ws ≡ false) ⊎ (records_ok m n (header_of n ws) ws ≡ false) → done_number (check_of m n ws scratch) ≡ 2 → Goes
+        → (top_ok m n ws ≡ false) ⊎ (records_ok m n (header_of n ws) ws ≡ false) → answer_number (check_of m n ws scratch) ≡ 2 → Goes
     sound : shape_ok m n (length ws) ≡ true → m ≤ length scratch → top_ok m n ws ≡ true → records_ok m n (header_of n ws) ws ≡ true
-        → done_number (check_of m n ws scratch) ≡ 0 → Goes
+        → answer_number (check_of m n ws scratch) ≡ 0 → Goes
 
   goes : Goes
-  unfolding check_of check_shape open_of open_shaped opened_check done_number refusal_number
+  unfolding check_of check_shape open_of open_shaped opened_check answer_number refusal_number
   goes = by_shape (shape_ok m n (length ws)) (dec_le m (length scratch)) refl
     where
       by_records : shape_ok m n (length ws) ≡ true → m ≤ length scratch → top_ok m n ws ≡ true
@@ -59,7 +58,7 @@ module _ (m n : ℕ) (ws scratch : List ℕ) where
   apart : (b : Bool) → b ≡ true → b ≡ false → ⊥
   apart b t f = true≢false (sym t ∙ f)
 
-  pub numbers : Numbers m n ws scratch (done_number (check_of m n ws scratch))
+  pub numbers : Numbers m n ws scratch (answer_number (check_of m n ws scratch))
   numbers = go goes
     where
       Shapeless : Type 0
@@ -76,7 +75,7 @@ module _ (m n : ℕ) (ws scratch : List ℕ) where
       passing (inl f) h r = apart _ h f
       passing (inr f) h r = apart _ r f
 
-      go : Goes → Numbers m n ws scratch (done_number (check_of m n ws scratch))
+      go : Goes → Numbers m n ws scratch (answer_number (check_of m n ws scratch))
       go (misshapen c e) =
           record {
             shape = (λ z. c, λ z. e);
@@ -107,7 +106,7 @@ module _ (m n : ℕ) (ws bytes : List ℕ) (shape : shape_ok m n (length ws) ≡
   unfolding check_of check_shape
   opened_answer = simp (shape, le-leb m (length (words bytes)) fits)
 
-  not_shape : done_number (check_of m n ws (words bytes)) ≢ 1
+  not_shape : answer_number (check_of m n ws (words bytes)) ≢ 1
   not_shape e = go ((numbers m n ws (words bytes)).shape.0 e)
     where
       go : (shape_ok m n (length ws) ≡ false) ⊎ (length (words bytes) < m) → ⊥
@@ -115,28 +114,28 @@ module _ (m n : ℕ) (ws bytes : List ℕ) (shape : shape_ok m n (length ws) ≡
       go (inr l) = omega arith
 
   pub opened_scratch : (part : List ℕ) → length part ≡ 4 * m → words part ≡ unmarked m
-      → ScratchLeft m bytes (part ++ drop (4 * m) bytes) (done_number (check_of m n ws (words bytes))) (check_scratch m n ws (words bytes))
+      → ScratchLeft m bytes (part ++ drop (4 * m) bytes) (answer_number (check_of m n ws (words bytes))) (check_scratch m n ws (words bytes))
   unfolding check_scratch check_shape
   opened_scratch part long e =
-      simp (shape, le-leb m (length (words bytes)) fits) (left_cleared m bytes fits part (done_number (check_of m n ws (words bytes))) long e not_shape)
+      simp (shape, le-leb m (length (words bytes)) fits) (left_cleared m bytes fits part (answer_number (check_of m n ws (words bytes))) long e not_shape)
 
 -- the shape is not right, or the scratch is short: nothing was touched
 module _ (m n : ℕ) (ws bytes : List ℕ) (short : check_shape m n ws (words bytes) ≡ false) where
-  pub shut_answer : check_of m n ws (words bytes) ≡ done.Refused no.Shape
+  pub shut_answer : check_of m n ws (words bytes) ≡ Err no.Shape
   unfolding check_of
   shut_answer = simp short
 
-  pub shut_scratch : ScratchLeft m bytes bytes (done_number (check_of m n ws (words bytes))) (check_scratch m n ws (words bytes))
+  pub shut_scratch : ScratchLeft m bytes bytes (answer_number (check_of m n ws (words bytes))) (check_scratch m n ws (words bytes))
   unfolding check_scratch
   shut_scratch = simp short (record { as_words = refl; beyond = refl; kept = λ e. refl })
 
 -- No second outcome fits: what the scratch holds afterwards, byte by byte, follows from what was lent.
 pub check_once : (m n : ℕ) (ws : List ℕ) {before a b : List ℕ} → Bytes a → Bytes b → length a ≡ length before → length b ≡ length before
-    → ScratchLeft m before a (done_number (check_of m n ws (words before))) (check_scratch m n ws (words before))
-    → ScratchLeft m before b (done_number (check_of m n ws (words before))) (check_scratch m n ws (words before)) → a ≡ b
+    → ScratchLeft m before a (answer_number (check_of m n ws (words before))) (check_scratch m n ws (words before))
+    → ScratchLeft m before b (answer_number (check_of m n ws (words before))) (check_scratch m n ws (words before)) → a ≡ b
 check_once m n ws {before} small small' long long' x y = one_scratch fits small small' long long' x y
   where
-    fits : done_number (check_of m n ws (words before)) ≢ 1 → m ≤ length (words before)
+    fits : answer_number (check_of m n ws (words before)) ≢ 1 → m ≤ length (words before)
     fits other = go (dec_le m (length (words before)))
       where
         go : Dec (m ≤ length (words before)) → m ≤ length (words before)

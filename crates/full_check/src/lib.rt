@@ -10,7 +10,7 @@ mod walk; // walk.rt: the tree
 ghost use Rattle.std.specs.Prelude.{◌≡◌, length, true};
 ghost use Rattle.words.specs.Words.{words};
 ghost use Rattle.records.specs.Layout.{image_of};
-ghost use Rattle.records.specs.Numbers.{done_number};
+ghost use Rattle.records.specs.Numbers.{answer_number};
 ghost use Rattle.inspection.specs.Opening.{open_of};
 ghost use Rattle.inspection.specs.Tests.{shape_ok};
 ghost use Rattle.inspection.specs.Room.{Room};
@@ -18,10 +18,9 @@ ghost use Rattle.full_check.specs.Check.{unmarked, records_ok, opened_check, che
 ghost use Rattle.full_check.specs.Scratch.{ScratchLeft};
 
 use chains::{node_chain, unused, value_chain};
-use inspection::Opened;
 use inspection::open::{is_image, open_shaped};
 use node_allocator::Arena;
-use records::{Done, Header, Refusal};
+use records::{Header, Refusal};
 use walk::tree_ok;
 
 // The tree, both chains, and what was never used.
@@ -44,23 +43,20 @@ fn records_ok(img: &[u8], marks: &mut [u8], m: u32, n: u32, h: Header) -> bool
 }
 
 // The header, then the records, with no value record marked yet.
-fn opened_check(img: &[u8], marks: &mut [u8], m: u32, n: u32) -> Done
+#[tactic(auto, using(inspection::specs::Room::room, inspection::specs::Room::opened_words, inspection::specs::Room::shaped_opens, inspection::specs::Room::shaped_shut), unfolding(crate::specs::Check::opened_check))]
+fn opened_check(img: &[u8], marks: &mut [u8], m: u32, n: u32) -> Result<(), Refusal>
     requires { (words marks.old ≡ unmarked m) × (shape_ok m n (length (image_of img.now)) ≡ true) }
     ensures { result ≡ opened_check m n (image_of img.now) (open_of m n (image_of img.now)) }
 {
-    match open_shaped(img, m, n) {
-        Opened::Good(h) => {
-            if records_ok(img, marks, m, n, h) {
-                return Done::Yes;
-            }
-            Done::Refused(Refusal::Damaged)
-        }
-        Opened::Shut(r) => Done::Refused(r),
+    let h = open_shaped(img, m, n)?;
+    if records_ok(img, marks, m, n, h) {
+        return Ok(());
     }
+    Err(Refusal::Damaged)
 }
 
 // The same with a scratch of just M words, which is cleared before and after.
-fn cleared_check(img: &[u8], marks: &mut [u8], m: u32, n: u32) -> Done
+fn cleared_check(img: &[u8], marks: &mut [u8], m: u32, n: u32) -> Result<(), Refusal>
     requires { (length (words marks.old) ≡ m) × (shape_ok m n (length (image_of img.now)) ≡ true) }
     ensures answer { result ≡ opened_check m n (image_of img.now) (open_of m n (image_of img.now)) }
     ensures scratch { words marks.new ≡ unmarked m }
@@ -71,11 +67,11 @@ fn cleared_check(img: &[u8], marks: &mut [u8], m: u32, n: u32) -> Done
     answer
 }
 
-// `Yes` exactly if the header and all records pass. Refusal 1: the image's shape is not M's and N's, or the scratch has fewer than M words, and
+// `Ok` exactly if the header and all records pass. Refusal 1: the image's shape is not M's and N's, or the scratch has fewer than M words, and
 // then the scratch is not touched. Refusal 2: a test fails.
-pub fn check(img: &[u8], m: u32, n: u32, scratch: &mut [u8]) -> Done
+pub fn check(img: &[u8], m: u32, n: u32, scratch: &mut [u8]) -> Result<(), Refusal>
     ensures answer { result ≡ check_of m n (image_of img.now) (words scratch.old) }
-    ensures scratch { ScratchLeft m scratch.old scratch.new (done_number (check_of m n (image_of img.now) (words scratch.old))) (check_scratch m n (image_of img.now) (words scratch.old)) }
+    ensures scratch { ScratchLeft m scratch.old scratch.new (answer_number (check_of m n (image_of img.now) (words scratch.old))) (check_scratch m n (image_of img.now) (words scratch.old)) }
 {
     if is_image(img, m, n) {
         let many = m as usize;
@@ -84,5 +80,5 @@ pub fn check(img: &[u8], m: u32, n: u32, scratch: &mut [u8]) -> Done
             return cleared_check(img, &mut scratch[..end], m, n);
         }
     }
-    Done::Refused(Refusal::Shape)
+    Err(Refusal::Shape)
 }

@@ -8,7 +8,7 @@ ghost use Rattle.full_check.specs.Walked.{walked, WalksTo};
 ghost use Rattle.full_check.specs.Check.{tree_ok};
 
 use inspection::Visited;
-use inspection::visit::{is_live, live_value, root_ok, visit};
+use inspection::visit::{live_value, root_ok, visit};
 use keys::{Key, bit, leading_equal};
 use records::{Header, Node, NodeIndex};
 
@@ -55,7 +55,7 @@ fn leaf_walk(img: &[u8], marks: &mut [u8], n: u32, rest: u64, i: NodeIndex, x: N
 {
     let j = x.value;
     let at = (j.0 - 1) as usize;
-    if is_live(live_value(img, n, i, j)) & (words::word(marks, at) == 0) {
+    if live_value(img, n, i, j).is_some() & (words::word(marks, at) == 0) {
         words::set_word(marks, at, 1);
         return Walked { passed: true, rest };
     }

@@ -1,14 +1,13 @@
 -- Any history of the map's calls with listings among them has the answers of the list's history.
-use Rattle.std.specs.Prelude.{◌≡◌, refl, List, [], ◌∷◌, Bool, true, false, cond, ℕ, length, eqb}
+use Rattle.std.specs.Prelude.{◌≡◌, refl, List, [], ◌∷◌, Bool, true, false, cond, ℕ, length, eqb, Err, Result}
 use Rattle.std.proofs.Common.{sym, ap, subst, ◌∙◌, arith, eqb-true}
 use Rattle.std.proofs.Math.Option.{Option, none, some, map}
+use Rattle.records.specs.declared.Value.{Value}
+use Rattle.records.specs.declared.Refusal.{Refusal}
 use Rattle.keys.specs.declared.Key.{Key}
 use Rattle.records.specs.declared.Refusal.TheVariants as no
-use Rattle.records.specs.declared.Done.{Done}
-use Rattle.records.specs.declared.Done.TheVariants as done
-use Rattle.records.specs.declared.Entry.{Entry}
 use Rattle.inspection.specs.Room.{Shaped}
-use Rattle.records.specs.Numbers.{refusal_number, got_number}
+use Rattle.records.specs.Numbers.{refusal_number, answer_number}
 use Rattle.listing.specs.declared.Position.{Position}
 use Rattle.listing.specs.Position.{opened_made, made_of}
 use Rattle.listing.specs.Step.{step_of}
@@ -43,13 +42,13 @@ changed_both P who x y f g new old k = go (eqb k who)
 
 -- a key that is not held: remove refuses, and leaves every word
 remove_missed : {m n : ℕ} {ws : List ℕ} (a : Accepted m n ws) (key : Key) → held key (listed a) ≡ false → removed_image m n ws key ≡ ws
-unfolding got_number refusal_number
+unfolding answer_number refusal_number
 remove_missed {m} {n} {ws} a key e =
-    let q : got_number (remove_of m n ws key) ≡ 4 = ap got_number ((remove_agrees a key).0 ∙ ap got_from (find_none key (listed a) (unheld key (listed a) e))) in
+    let q : answer_number (remove_of m n ws key) ≡ 4 = ap answer_number ((remove_agrees a key).0 ∙ ap got_from (find_none key (listed a) (unheld key (listed a) e))) in
     refused_keeps m n ws key (λ z. omega arith)
 
 -- on blank memory no listing is made
-made_blank : (m n : ℕ) (ws : List ℕ) → Shaped m n (length ws) → Blank ws → (made_of m n ws).answer ≡ done.Refused no.Damaged
+made_blank : (m n : ℕ) (ws : List ℕ) → Shaped m n (length ws) → Blank ws → (made_of m n ws).answer ≡ Err no.Damaged
 unfolding made_of opened_made
 made_blank m n ws shape zeros = rw (shut_blank m n ws shape zeros)
 
@@ -105,19 +104,19 @@ step_one : (m n : ℕ) (ws : List ℕ) (s : State) (p : Position) (left : Option
 step_one m n ws blank p none w back = (tt, tt)
 step_one m n ws blank p (some left) w back = absurd w
 step_one m n ws (holding es) p none w back = (tt, tt)
-step_one m n ws (holding es) p (some left) w back = (ap (λ (e : Entry). entry_is e) (moment_gives w back), moment_stepped w back)
+step_one m n ws (holding es) p (some left) w back = (ap (λ (e : Result (Key × Value) Refusal). entry_is e) (moment_gives w back), moment_stepped w back)
 
 -- Each answer is the one that the list gives, and the next moment is the list's.
 pub move_agrees : (m n : ℕ) (ws : List ℕ) (ps : ℕ → Position) (s : State) (lefts : ℕ → Option Entries) → Watched m n ws ps s lefts → (x : Move) → FittingMove x
     → Meets (move_answer m n x ws ps) (move_told m x s lefts) × Watched m n (move_image m n x ws) (move_positions m n x ws ps) (move_next m x s) (move_lefts m x s lefts)
-move_agrees m n ws ps blank lefts w (opened who) f = (ap (λ (d : Done). done_is d) (made_blank m n ws w.0.0 w.0.1), (w.0, λ k. tt))
+move_agrees m n ws ps blank lefts w (opened who) f = (ap (λ (d : Result Unit Refusal). done_is d) (made_blank m n ws w.0.0 w.0.1), (w.0, λ k. tt))
 move_agrees m n ws ps blank lefts w (stepped who back) f = ((step_one m n ws blank (ps who) (lefts who) (w.1 who) back).0, (w.0, λ k. tt))
 move_agrees m n ws ps blank lefts w (called c) f =
     let r = agrees m n ws blank w.0 c f in (r.0, (r.1, λ k. unpromised m n (image_left m n c ws) (state_next m c blank) (ps k)))
 move_agrees m n ws ps (holding es) lefts w (opened who) f =
     let a = w.0.0 in
     let made : Moment m n ws (made_of m n ws).position es es = subst (λ (l : Entries). Moment m n ws (made_of m n ws).position l l) w.0.1 (moment_made a) in
-    (ap (λ (d : Done). done_is d) (made_agrees a).0, (w.0, changed_both (Promised m n ws (holding es)) who (made_of m n ws).position (some es) ps lefts made w.1))
+    (ap (λ (d : Result Unit Refusal). done_is d) (made_agrees a).0, (w.0, changed_both (Promised m n ws (holding es)) who (made_of m n ws).position (some es) ps lefts made w.1))
 move_agrees m n ws ps (holding es) lefts w (stepped who back) f =
     let r = step_one m n ws (holding es) (ps who) (lefts who) (w.1 who) back in
     (r.0, (w.0, changed_both (Promised m n ws (holding es)) who (step_of back m n ws (ps who)).position (map (rest_of back) (lefts who)) ps lefts r.1 w.1))

@@ -1,17 +1,14 @@
 -- Each call answers as the list does, refusals included, up to the node index, and leaves blank memory or an accepted image with the list's next state. So does every history of calls.
-use Rattle.std.specs.Prelude.{◌≡◌, refl, List, [], ◌∷◌, map, Bool, true, false, cond, ℕ, ◌≤◌, length, leb}
+use Rattle.std.specs.Prelude.{◌≡◌, refl, List, [], ◌∷◌, map, Bool, true, false, cond, ℕ, ◌≤◌, length, leb, Err, Ok, Result}
 use Rattle.std.proofs.Common.{sym, ap, subst, ◌∙◌, lt_of_not-le, eq-eqb, ne_eqb, le-leb}
 use Rattle.std.proofs.Math.Option.{Option, none, some}
 use Rattle.std.proofs.Math.Decide.{ℕ_discrete, dec_le}
 use Rattle.std.proofs.lemmas.Bool.{lt-leb}
+use Rattle.records.specs.declared.Value.{Value}
+use Rattle.records.specs.declared.Refusal.{Refusal}
+use Rattle.records.specs.declared.NodeIndex.{NodeIndex}
+use Rattle.keys.specs.declared.Key.{Key}
 use Rattle.records.specs.declared.Refusal.TheVariants as no
-use Rattle.records.specs.declared.Done.{Done}
-use Rattle.records.specs.declared.Done.TheVariants as done
-use Rattle.records.specs.declared.Got.{Got}
-use Rattle.records.specs.declared.Place.{Place}
-use Rattle.records.specs.declared.Place.TheVariants as place
-use Rattle.records.specs.declared.Entry.{Entry}
-use Rattle.records.specs.declared.Count.{Count}
 use Rattle.inspection.specs.Room.{Shaped}
 use Rattle.lookup.specs.Start.{start_image}
 use Rattle.lookup.specs.Get.{write_image}
@@ -45,29 +42,29 @@ Is m n ws (holding es) = (a : Accepted m n ws) × (listed a ≡ es)
 -- ---- a node index
 
 -- a key has a leaf exactly if the list holds it
-leaf_place : (r : Option (ℕ × ℕ)) → indexless (place_is (place_from r)) ≡ cond (is_some (value_of r)) somewhere (place_is (place.Refused no.Absent))
+leaf_place : (r : Option (ℕ × ℕ)) → indexless (place_is (place_from r)) ≡ cond (is_some (value_of r)) somewhere (place_is (Err no.Absent))
 leaf_place none = refl
 leaf_place (some e) = refl
 
 module _ {m n : ℕ} {ws : List ℕ} (a : Accepted m n ws) where
-  short : (scratch : List ℕ) → leb m (length scratch) ≡ false → check_of m n ws scratch ≡ done.Refused no.Shape
+  short : (scratch : List ℕ) → leb m (length scratch) ≡ false → check_of m n ws scratch ≡ Err no.Shape
   unfolding check_of check_shape
   short scratch e = rw (shape_passes a.shape, e)
 
   reply_agrees : (q : Question) → indexless (question_answer m n q ws) ≡ list_reply m q (listed a)
-  reply_agrees (get key) = ap (λ (g : Got). got_is g) (get_agrees a key)
-  reply_agrees (contains key) = ap (λ (d : Done). done_is d) (contains_agrees a key)
+  reply_agrees (get key) = ap (λ (g : Result Value Refusal). got_is g) (get_agrees a key)
+  reply_agrees (contains key) = ap (λ (d : Result Unit Refusal). done_is d) (contains_agrees a key)
   reply_agrees (address key) =
-      ap (λ (p : Place). indexless (place_is p)) (addr_agrees a key)
+      ap (λ (p : Result NodeIndex Refusal). indexless (place_is p)) (addr_agrees a key)
       ∙ leaf_place (lookup_in key a.tree)
-      ∙ ap (λ (b : Bool). cond b somewhere (place_is (place.Refused no.Absent))) (sym (held_listed a key))
-  reply_agrees len = ap (λ (c : Count). count_from c) (length_agrees a)
-  reply_agrees capacity = ap (λ (c : Count). count_from c) (capacity_agrees a)
-  reply_agrees smallest = ap (λ (e : Entry). entry_is e) (end_agrees a false)
-  reply_agrees largest = ap (λ (e : Entry). entry_is e) (end_agrees a true)
+      ∙ ap (λ (b : Bool). cond b somewhere (place_is (Err no.Absent))) (sym (held_listed a key))
+  reply_agrees len = ap (λ (c : Result ℕ Refusal). count_from c) (length_agrees a)
+  reply_agrees capacity = ap (λ (c : Result ℕ Refusal). count_from c) (capacity_agrees a)
+  reply_agrees smallest = ap (λ (e : Result (Key × Value) Refusal). entry_is e) (end_agrees a false)
+  reply_agrees largest = ap (λ (e : Result (Key × Value) Refusal). entry_is e) (end_agrees a true)
   reply_agrees (check scratch) = go (dec_le m (length scratch))
     where
-      go : Dec (m ≤ length scratch) → done_is (check_of m n ws scratch) ≡ done_is (cond (leb m (length scratch)) done.Yes (done.Refused no.Shape))
+      go : Dec (m ≤ length scratch) → done_is (check_of m n ws scratch) ≡ done_is (cond (leb m (length scratch)) (Ok tt) (Err no.Shape))
       go (yes l) = rw (check_complete m n ws scratch a l, le-leb m (length scratch) l)
       go (no l) = let e = lt-leb m (length scratch) (lt_of_not-le l) in rw (short scratch e, e)
 
@@ -82,7 +79,7 @@ module _ {m n : ℕ} {ws : List ℕ} (a : Accepted m n ws) where
   kept vs es e l = subst (λ (us : List ℕ). (b : Accepted m n us) × (listed b ≡ es)) (sym e) (a, sym l)
 
   pub call_agrees : (c : Call) → Fitting c → Follows c
-  call_agrees start f = let r = start_refused a in (ap (λ (d : Done). done_is d) r.0, kept (start_image m n ws) (listed a) r.1 refl)
+  call_agrees start f = let r = start_refused a in (ap (λ (d : Result Unit Refusal). done_is d) r.0, kept (start_image m n ws) (listed a) r.1 refl)
   call_agrees (insert key v) f = go (ℕ_discrete (length (listed a)) m)
     where
       go : Dec (length (listed a) ≡ m) → Follows (insert key v)
@@ -94,8 +91,8 @@ module _ {m n : ℕ} {ws : List ℕ} (a : Accepted m n ws) where
           let r = (insert_agrees a key f.0 v f.1).1 d in
           let t : full m (listed a) ≡ false = ne_eqb (length (listed a)) m d in
           rw (t, r.1) (refl, (r.2.0, r.2.1))
-  call_agrees (remove key) f = let r = remove_agrees a key in (ap (λ (g : Got). got_is g) r.0, r.1)
-  call_agrees (write key v) f = let r = write_agrees a key v f in (ap (λ (d : Done). done_is d) r.0, r.1)
+  call_agrees (remove key) f = let r = remove_agrees a key in (ap (λ (g : Result Value Refusal). got_is g) r.0, r.1)
+  call_agrees (write key v) f = let r = write_agrees a key v f in (ap (λ (d : Result Unit Refusal). done_is d) r.0, r.1)
   call_agrees (ask q) f = (reply_agrees q, (a, refl))
 
 -- ---- a call on blank memory
@@ -110,12 +107,12 @@ module _ (m n : ℕ) (ws : List ℕ) (shape : Shaped m n (length ws)) (zeros : B
   pub blank_agrees : (c : Call) → FollowsBlank c
   blank_agrees start =
       let r = start_agrees m n ws shape zeros in (
-        ap (λ (d : Done). done_is d) r.0,
+        ap (λ (d : Result Unit Refusal). done_is d) r.0,
         subst (λ (us : List ℕ). Is m n us (holding [])) (sym r.1) (started_accepted m n ws shape zeros, started_listed m n ws shape zeros),
       )
-  blank_agrees (insert key v) = let r = insert_blank m n ws shape zeros key v in (ap (λ (p : Place). indexless (place_is p)) r.0, still (insert_image m n ws key v) r.1)
-  blank_agrees (remove key) = let r = remove_blank m n ws shape zeros key in (ap (λ (g : Got). got_is g) r.0, still (removed_image m n ws key) r.1)
-  blank_agrees (write key v) = let r = write_blank m n ws shape zeros key v in (ap (λ (d : Done). done_is d) r.0, still (write_image m n ws key v) r.1)
+  blank_agrees (insert key v) = let r = insert_blank m n ws shape zeros key v in (ap (λ (p : Result NodeIndex Refusal). indexless (place_is p)) r.0, still (insert_image m n ws key v) r.1)
+  blank_agrees (remove key) = let r = remove_blank m n ws shape zeros key in (ap (λ (g : Result Value Refusal). got_is g) r.0, still (removed_image m n ws key) r.1)
+  blank_agrees (write key v) = let r = write_blank m n ws shape zeros key v in (ap (λ (d : Result Unit Refusal). done_is d) r.0, still (write_image m n ws key v) r.1)
   blank_agrees (ask q) = (ap indexless (reply_blank m n ws shape zeros q) ∙ indexed q, (shape, zeros))
     where
       indexed : (q : Question) → indexless (blank_reply m q) ≡ blank_reply m q

@@ -1,14 +1,12 @@
 -- The demands that speak of accepted images and of histories, sentence by sentence, each cited from where it is proved. `Call`, `list_answer` and `list_next` are in the crate lists, Machine; `answer_of` and
 -- `image_left` in Calls; `Accepted` in the crate accepted. Over the bytes that the code's own calls are lent the same stands in the crate lent.
-use Rattle.std.specs.Prelude.{◌≡◌, refl, List, ◌∷◌, map, ◌≢◌, ◌↔◌, false, ℕ, suc, ◌-◌, ◌*◌, ◌≤◌, min, length}
+use Rattle.std.specs.Prelude.{◌≡◌, refl, List, ◌∷◌, map, ◌≢◌, ◌↔◌, false, ℕ, suc, ◌-◌, ◌*◌, ◌≤◌, min, length, Err, Ok}
 use Rattle.std.proofs.Common.{sym, ap, subst, ◌∙◌, arith}
 use Rattle.keys.specs.declared.Key.{Key}
 use Rattle.keys.specs.Number.{Fits}
 use Rattle.records.specs.declared.NodeIndex.{NodeIndex}
 use Rattle.records.specs.declared.Value.{Value}
 use Rattle.records.specs.declared.Refusal.TheVariants as no
-use Rattle.records.specs.declared.Done.TheVariants as done
-use Rattle.records.specs.declared.Place.TheVariants as place
 use Rattle.records.specs.Records.{header_of, node_of, leaf_node}
 use Rattle.inspection.specs.Room.{Shaped}
 use Rattle.lookup.specs.Get.{addr_of}
@@ -68,7 +66,7 @@ pub record AsTheList (m n : ℕ) (ws : List ℕ) (c : Call) (es : Entries) : Typ
   -- an accepted image, with the list's next state; the check accepts it again
   pub image : Accepted m n (image_left m n c ws)
   pub next : listed image ≡ list_next m c es
-  pub checked : (scratch : List ℕ) → m ≤ length scratch → check_of m n (image_left m n c ws) scratch ≡ done.Yes
+  pub checked : (scratch : List ℕ) → m ≤ length scratch → check_of m n (image_left m n c ws) scratch ≡ Ok tt
 
 pub as_the_list : {m n : ℕ} {ws : List ℕ} (a : Accepted m n ws) (c : Call) → Fitting c → AsTheList m n ws c (listed a)
 as_the_list {m} {n} {ws} a c f =
@@ -84,7 +82,7 @@ as_the_list {m} {n} {ws} a c f =
     }
 
 -- "On every image that the full check accepts, each call answers as one ascending list of keys and values does, refusals included, and leaves an accepted image."
-pub answers_as_one_list : (m n : ℕ) (ws scratch : List ℕ) → Small ws → check_of m n ws scratch ≡ done.Yes
+pub answers_as_one_list : (m n : ℕ) (ws scratch : List ℕ) → Small ws → check_of m n ws scratch ≡ Ok tt
     → (es : Entries) × Rising es × ((c : Call) → Fitting c → AsTheList m n ws c es)
 answers_as_one_list m n ws scratch small e = let a = check_sound m n ws scratch small e in (listed a, ascends a, as_the_list a)
 
@@ -97,9 +95,9 @@ one_state_only = one_state
 
 -- The node index, which the list does not have, is that of the key's leaf: address refuses exactly a key that is not held, the node that it names is the key's leaf, and an insert gives what address then gives.
 pub record IndexLaw (m n : ℕ) (ws : List ℕ) (key : Key) (es : Entries) : Type 0 where
-  pub absent : (addr_of m n ws key ≡ place.Refused no.Absent) ↔ (held key es ≡ false)
-  pub names : (i : NodeIndex) → addr_of m n ws key ≡ place.At i → (up v : ℕ) × (node_of ws i.0 ≡ leaf_node up key v)
-  pub inserted : (v : Value) → FitsValue v → (i : NodeIndex) → insert_of m n ws key ≡ place.At i → addr_of m n (insert_image m n ws key v) key ≡ place.At i
+  pub absent : (addr_of m n ws key ≡ Err no.Absent) ↔ (held key es ≡ false)
+  pub names : (i : NodeIndex) → addr_of m n ws key ≡ Ok i → (up v : ℕ) × (node_of ws i.0 ≡ leaf_node up key v)
+  pub inserted : (v : Value) → FitsValue v → (i : NodeIndex) → insert_of m n ws key ≡ Ok i → addr_of m n (insert_image m n ws key v) key ≡ Ok i
 
 pub index_law : {m n : ℕ} {ws : List ℕ} (a : Accepted m n ws) (key : Key) → Fits key → IndexLaw m n ws key (listed a)
 index_law a key f = record { absent = address_absent a key; names = address_names a key f; inserted = insert_addressed a key f }
@@ -108,7 +106,7 @@ index_law a key f = record { absent = address_absent a key; names = address_name
 
 -- "A full map refuses even a key it holds", whatever the key, and nothing changes.
 pub full_refuses : {m n : ℕ} {ws : List ℕ} (a : Accepted m n ws) (key : Key) → Fits key → (v : Value) → FitsValue v → length (listed a) ≡ m
-    → (insert_of m n ws key ≡ place.Refused no.Full) × (insert_image m n ws key v ≡ ws)
+    → (insert_of m n ws key ≡ Err no.Full) × (insert_image m n ws key v ≡ ws)
 full_refuses a key f v g e = insert_full a key f v g e
 
 -- "The check accepts exactly the images that meet the rules."

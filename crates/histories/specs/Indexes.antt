@@ -1,18 +1,17 @@
 -- The law of the node index, which the list does not have: it names the leaf that holds the key. Address gives one exactly if the key is held, and after an insert it gives the one that the insert gave.
 use Rattle.std.proofs.Math.Path.{◌≡◌, ap}
-use Rattle.std.specs.Prelude.{refl, List, ◌↔◌, Bool, true, false, cond, length, leb}
+use Rattle.std.specs.Prelude.{refl, List, ◌↔◌, Bool, true, false, cond, length, leb, Err, Ok, Result}
 use Rattle.std.proofs.Common.{sym, ◌∙◌, arith, eqb-true}
 use Rattle.std.proofs.Math.Option.{Option, none, some, some-injective}
 use Prim.Native.Nat.{ℕ, ◌+◌}
 use Rattle.std.proofs.Math.Decide.{ℕ_discrete}
+use Rattle.records.specs.declared.Refusal.{Refusal}
 use Rattle.keys.specs.declared.Key.{Key}
 use Rattle.keys.specs.Number.{Fits, number_of, number_equal}
 use Rattle.records.specs.declared.NodeIndex.{NodeIndex}
 use Rattle.records.specs.declared.Header.{Header}
 use Rattle.records.specs.declared.Value.{Value}
 use Rattle.records.specs.declared.Refusal.TheVariants as no
-use Rattle.records.specs.declared.Place.{Place}
-use Rattle.records.specs.declared.Place.TheVariants as place
 use Rattle.records.specs.Records.{header_of, node_of, leaf_node}
 use Rattle.lookup.specs.Get.{addr_of}
 use Rattle.insert.specs.Steps.{insert_of, insert_image}
@@ -55,37 +54,37 @@ leaf_named h ws key f parent low (inner j b p l r) k o i v e =
 
 module _ {m n : ℕ} {ws : List ℕ} (a : Accepted m n ws) (key : Key) where
   -- address refuses exactly a key that is not held, as absent
-  pub address_absent : (addr_of m n ws key ≡ place.Refused no.Absent) ↔ (held key (listed a) ≡ false)
-  address_absent = (λ e. only (held key (listed a)) refl (sym (ap (λ (p : Place). indexless (place_is p)) e) ∙ asked), λ e. when (addr_of m n ws key) (asked ∙ ap answer e))
+  pub address_absent : (addr_of m n ws key ≡ Err no.Absent) ↔ (held key (listed a) ≡ false)
+  address_absent = (λ e. only (held key (listed a)) refl (sym (ap (λ (p : Result NodeIndex Refusal). indexless (place_is p)) e) ∙ asked), λ e. when (addr_of m n ws key) (asked ∙ ap answer e))
     where
       answer : Bool → Answer
-      answer b = cond b somewhere (place_is (place.Refused no.Absent))
+      answer b = cond b somewhere (place_is (Err no.Absent))
 
       asked : indexless (place_is (addr_of m n ws key)) ≡ answer (held key (listed a))
       asked = (call_agrees a (ask (address key)) tt).0
 
-      only : (b : Bool) → held key (listed a) ≡ b → place_is (place.Refused no.Absent) ≡ answer b → b ≡ false
+      only : (b : Bool) → held key (listed a) ≡ b → place_is (Err no.Absent) ≡ answer b → b ≡ false
       only true q z = let z : ◌≡◌ {A = ℕ} 0 1 = cc in absurd (omega arith)
       only false q z = refl
 
-      when : (p : Place) → indexless (place_is p) ≡ place_is (place.Refused no.Absent) → p ≡ place.Refused no.Absent
-      when (place.At i) z = let z : ◌≡◌ {A = ℕ} 0 1 = cc in absurd (omega arith)
-      when (place.Refused r) z = cc
+      when : (p : Result NodeIndex Refusal) → indexless (place_is p) ≡ place_is (Err no.Absent) → p ≡ Err no.Absent
+      when (Ok i) z = let z : ◌≡◌ {A = ℕ} 0 1 = cc in absurd (omega arith)
+      when (Err r) z = cc
 
   -- the index of a held key is that of its leaf: node i holds the key
-  pub address_names : Fits key → (i : NodeIndex) → addr_of m n ws key ≡ place.At i → (up v : ℕ) × (node_of ws i.0 ≡ leaf_node up key v)
+  pub address_names : Fits key → (i : NodeIndex) → addr_of m n ws key ≡ Ok i → (up v : ℕ) × (node_of ws i.0 ≡ leaf_node up key v)
   unfolding HoldsMap
   address_names f i e = on_map a.tree a.holds a.ordered (sym (addr_agrees a key) ∙ e)
     where
-      given : (r : Option (ℕ × ℕ)) → place_from r ≡ place.At i → (v : ℕ) × (r ≡ some (i.0, v))
+      given : (r : Option (ℕ × ℕ)) → place_from r ≡ Ok i → (v : ℕ) × (r ≡ some (i.0, v))
       given none z = let z : ◌≡◌ {A = ℕ} 0 1 = cc in absurd (omega arith)
       given (some x) z = let index : x.0 ≡ i.0 = ap index_in z in (x.1, λ ι. some (index ι, x.1))
         where
-          index_in : Place → ℕ
-          index_in (place.At j) = j.0
-          index_in (place.Refused r) = 0
+          index_in : Result NodeIndex Refusal → ℕ
+          index_in (Ok j) = j.0
+          index_in (Err r) = 0
 
-      on_map : (t : Map) → HoldsMap (header_of n ws) ws t → OrderedMap t → place_from (lookup_in key t) ≡ place.At i → (up v : ℕ) × (node_of ws i.0 ≡ leaf_node up key v)
+      on_map : (t : Map) → HoldsMap (header_of n ws) ws t → OrderedMap t → place_from (lookup_in key t) ≡ Ok i → (up v : ℕ) × (node_of ws i.0 ≡ leaf_node up key v)
       on_map none k o z = let z : ◌≡◌ {A = ℕ} 0 1 = cc in absurd (omega arith)
       on_map (some t) k o z =
           let there = given (lookup key t) z in
@@ -93,13 +92,13 @@ module _ {m n : ℕ} {ws : List ℕ} (a : Accepted m n ws) (key : Key) where
           (named.0, there.0, named.1)
 
   -- an insert that is not refused gives the index at which the key then stands
-  pub insert_addressed : Fits key → (v : Value) → FitsValue v → (i : NodeIndex) → insert_of m n ws key ≡ place.At i → addr_of m n (insert_image m n ws key v) key ≡ place.At i
+  pub insert_addressed : Fits key → (v : Value) → FitsValue v → (i : NodeIndex) → insert_of m n ws key ≡ Ok i → addr_of m n (insert_image m n ws key v) key ≡ Ok i
   insert_addressed f v g i e = go (ℕ_discrete (length (listed a)) m)
     where
-      go : Dec (length (listed a) ≡ m) → addr_of m n (insert_image m n ws key v) key ≡ place.At i
+      go : Dec (length (listed a) ≡ m) → addr_of m n (insert_image m n ws key v) key ≡ Ok i
       go (yes q) =
           let r = (insert_agrees a key f v g).0 q in
-          let z : place.Refused no.Full ≡ place.At i = sym r.0 ∙ e in
+          let z : Err no.Full ≡ Ok i = sym r.0 ∙ e in
           let z : ◌≡◌ {A = ℕ} 0 1 = cc in
           absurd (omega arith)
       go (no d) = let r = (insert_agrees a key f v g).1 d in r.2.2 ∙ sym r.1 ∙ e

@@ -1,11 +1,10 @@
 -- Histories with listings in them: every call of the map, and between the calls any number of listings, each under a number of its own, that are made and stepped from both ends in whatever order.
 -- The steps of each give what the list has left between its ends, each entry with the value that the list has then, whatever the others do. Calls that only read, value writes and refused calls leave
 -- the listings as they are; an insert or a remove ends what is promised of all of them, of each until it is made anew.
-use Rattle.std.specs.Prelude.{◌≡◌, List, [], ◌∷◌, Bool, cond, ℕ, ◌≤◌, eqb}
+use Rattle.std.specs.Prelude.{◌≡◌, List, [], ◌∷◌, Bool, cond, ℕ, ◌≤◌, eqb, Err, Ok}
 use Rattle.std.proofs.Common.{subst}
 use Rattle.std.proofs.Math.Option.{Option, none, some, map}
 use Rattle.records.specs.declared.Refusal.TheVariants as no
-use Rattle.records.specs.declared.Done.TheVariants as done
 use Rattle.listing.specs.declared.Position.{Position}
 use Rattle.listing.specs.Position.{made_of}
 use Rattle.listing.specs.Step.{step_of}
@@ -71,8 +70,8 @@ step_told back none = none
 step_told back (some left) = some (entry_is (entry_from (list_end back left)))
 
 abbrev pub move_told : ℕ → Move → State → (ℕ → Option Entries) → Option Answer
-move_told m (opened who) blank lefts = some (done_is (done.Refused no.Damaged))
-move_told m (opened who) (holding es) lefts = some (done_is done.Yes)
+move_told m (opened who) blank lefts = some (done_is (Err no.Damaged))
+move_told m (opened who) (holding es) lefts = some (done_is (Ok tt))
 move_told m (stepped who back) s lefts = step_told back (lefts who)
 move_told m (called c) s lefts = some (state_answer m c s)
 

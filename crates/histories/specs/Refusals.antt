@@ -1,12 +1,10 @@
 -- The refusal numbers of every call on an accepted image, each when, and only then: they are read off the list. Refusal 2 does not arise, and 1 only for a check with too little scratch.
-use Rattle.std.specs.Prelude.{◌≡◌, refl, List, [], ◌∷◌, ◌≢◌, Bool, true, false, cond, ℕ, ◌<◌, length, leb}
+use Rattle.std.specs.Prelude.{◌≡◌, refl, List, [], ◌∷◌, ◌≢◌, Bool, true, false, cond, ℕ, ◌<◌, length, leb, Err, Ok}
 use Rattle.std.proofs.Common.{sym, ap, ◌∙◌, arith, leb-false}
 use Rattle.std.proofs.Math.Option.{some}
 use Rattle.keys.specs.declared.Key.{Key}
-use Rattle.records.specs.declared.Done.TheVariants as done
-use Rattle.records.specs.declared.Place.TheVariants as place
 use Rattle.records.specs.declared.Refusal.TheVariants as no
-use Rattle.records.specs.Numbers.{refusal_number, done_number, got_number, place_number, entry_number, count_number}
+use Rattle.records.specs.Numbers.{done, refusal_number, answer_number}
 use Rattle.lists.specs.Entries.{same, list_end, find, held}
 use Rattle.lists.specs.Answers.{got_from, done_from, entry_from, Answer, done_is, got_is, place_is, entry_is, count_from, number_in, indexless, somewhere}
 use Rattle.lists.specs.Machine.{Question, get, contains, address, len, capacity, smallest, largest, check, Call, start, insert, remove, write, ask, Fitting, Entries, full, list_answer}
@@ -47,52 +45,52 @@ list_number m (ask q) es = reply_number m q es
 -- ---- they are the numbers of its answers
 
 index_no_number : (x : Answer) → number_in (indexless x) ≡ number_in x
-unfolding number_in place_number
-index_no_number (place_is (place.At i)) = refl
-index_no_number (place_is (place.Refused r)) = refl
+unfolding number_in answer_number
+index_no_number (place_is (Ok i)) = refl
+index_no_number (place_is (Err r)) = refl
 index_no_number (done_is d) = refl
 index_no_number (got_is g) = refl
 index_no_number (entry_is e) = refl
 index_no_number (count_from c) = refl
 
-got_number_lem : (key : Key) (es : Entries) → got_number (got_from (find key es)) ≡ absent_unless (held key es)
-unfolding got_number refusal_number
+got_number_lem : (key : Key) (es : Entries) → answer_number (got_from (find key es)) ≡ absent_unless (held key es)
+unfolding answer_number refusal_number
 got_number_lem key [] = refl
 got_number_lem key (e ∷ es) = go (same key e.0) (got_number_lem key es)
   where
-    go : (b : Bool) → got_number (got_from (find key es)) ≡ absent_unless (held key es)
-        → got_number (got_from (cond b (some e.1) (find key es))) ≡ absent_unless (cond b true (held key es))
+    go : (b : Bool) → answer_number (got_from (find key es)) ≡ absent_unless (held key es)
+        → answer_number (got_from (cond b (some e.1) (find key es))) ≡ absent_unless (cond b true (held key es))
     go true f = refl
     go false f = f
 
-done_number_lem : (b : Bool) → done_number (done_from b) ≡ absent_unless b
-unfolding done_number refusal_number
+done_number_lem : (b : Bool) → answer_number (done_from b) ≡ absent_unless b
+unfolding answer_number refusal_number
 done_number_lem true = refl
 done_number_lem false = refl
 
-place_number_lem : (b : Bool) → number_in (cond b somewhere (place_is (place.Refused no.Absent))) ≡ absent_unless b
-unfolding number_in place_number refusal_number
+place_number_lem : (b : Bool) → number_in (cond b somewhere (place_is (Err no.Absent))) ≡ absent_unless b
+unfolding number_in answer_number refusal_number
 place_number_lem true = refl
 place_number_lem false = refl
 
-full_number : (b : Bool) → number_in (cond b (place_is (place.Refused no.Full)) somewhere) ≡ cond b 3 0
-unfolding number_in place_number refusal_number
+full_number : (b : Bool) → number_in (cond b (place_is (Err no.Full)) somewhere) ≡ cond b 3 0
+unfolding number_in answer_number refusal_number
 full_number true = refl
 full_number false = refl
 
-end_number : (b : Bool) (es : Entries) → entry_number (entry_from (list_end b es)) ≡ absent_if_empty es
-unfolding entry_number refusal_number
+end_number : (b : Bool) (es : Entries) → answer_number (entry_from (list_end b es)) ≡ absent_if_empty es
+unfolding answer_number refusal_number
 end_number b [] = refl
 end_number false (e ∷ es) = refl
 end_number true (e ∷ es) = refl
 
-check_number : (b : Bool) → done_number (cond b done.Yes (done.Refused no.Shape)) ≡ cond b 0 1
-unfolding done_number refusal_number
+check_number : (b : Bool) → answer_number (cond b done (Err no.Shape)) ≡ cond b 0 1
+unfolding answer_number refusal_number
 check_number true = refl
 check_number false = refl
 
 list_number_lem : (m : ℕ) (c : Call) (es : Entries) → number_in (list_answer m c es) ≡ list_number m c es
-unfolding number_in done_number count_number refusal_number
+unfolding number_in answer_number refusal_number
 list_number_lem m start es = refl
 list_number_lem m (insert key v) es = full_number (full m es)
 list_number_lem m (remove key) es = got_number_lem key es

@@ -1,6 +1,6 @@
 -- The rules E, empty versions to shut out: calls that refuse always, answer one thing, do nothing or make up their counts do not fit. An insert is seen by the next get and counted by the next length,
 -- on every accepted image; and one history of calls on blank memory, whose answers no function of the call alone gives.
-use Rattle.std.specs.Prelude.{◌≡◌, refl, List, [], ◌∷◌, map, ◌≢◌, Bool, true, false, ℕ, suc, ◌^◌, ◌<◌, get_or, replicate, ltb}
+use Rattle.std.specs.Prelude.{◌≡◌, refl, List, [], ◌∷◌, map, ◌≢◌, Bool, true, false, ℕ, suc, ◌^◌, ◌<◌, get_or, replicate, ltb, Err, Ok}
 use Rattle.std.proofs.Math.Path.{sym, ap}
 use Rattle.std.proofs.Common.{◌∙◌, arith, lit<, eq-eqb, ne_eqb, eqb-true}
 use Rattle.std.proofs.Math.Bool.{cond}
@@ -10,9 +10,6 @@ use Rattle.keys.specs.declared.Key.{Key}
 use Rattle.keys.specs.Number.{Fits, number_of}
 use Rattle.records.specs.declared.Value.{Value}
 use Rattle.records.specs.declared.Refusal.TheVariants as no
-use Rattle.records.specs.declared.Done.TheVariants as done
-use Rattle.records.specs.declared.Got.TheVariants as got
-use Rattle.records.specs.declared.Count.TheVariants as count
 use Rattle.records.specs.Numbers.{count_is}
 use Rattle.lookup.specs.Start.{length_of}
 use Rattle.lookup.specs.Get.{get_of}
@@ -85,29 +82,29 @@ find_erase key (e ∷ es) r = go (same key e.0) refl (find_erase key es r.1)
 
 module _ {m n : ℕ} {ws : List ℕ} (a : Accepted m n ws) (key : Key) where
   -- doing nothing, or one constant answer: the value that was inserted is the one that get gives, whatever it was before
-  pub insert_seen : Fits key → (v : Value) → FitsValue v → length (listed a) ≢ m → get_of m n (insert_image m n ws key v) key ≡ got.Found v
+  pub insert_seen : Fits key → (v : Value) → FitsValue v → length (listed a) ≢ m → get_of m n (insert_image m n ws key v) key ≡ Ok v
   insert_seen f v g room =
       let r = ((insert_agrees a key f v g).1 room).2 in
       get_agrees r.0 key ∙ ap (λ (es : Entries). got_from (find key es)) r.1 ∙ ap got_from (find_enter key v (listed a))
 
   -- and a key that was removed is absent
-  pub remove_seen : get_of m n (removed_image m n ws key) key ≡ got.Refused no.Absent
+  pub remove_seen : get_of m n (removed_image m n ws key) key ≡ Err no.Absent
   remove_seen =
       let r = (remove_agrees a key).1 in
       get_agrees r.0 key ∙ ap (λ (es : Entries). got_from (find key es)) r.1 ∙ ap got_from (find_erase key (listed a) (ascends a))
 
   -- a made-up n: length counts the list, one more after the insert of a new key, and one less after the remove of a key that was there
   pub insert_counted : Fits key → (v : Value) → FitsValue v → length (listed a) ≢ m
-      → length_of m n (insert_image m n ws key v) ≡ count.Is (cond (held key (listed a)) (length (listed a)) (suc (length (listed a))))
+      → length_of m n (insert_image m n ws key v) ≡ Ok (cond (held key (listed a)) (length (listed a)) (suc (length (listed a))))
   insert_counted f v g room =
       let r = ((insert_agrees a key f v g).1 room).2 in
-      length_agrees r.0 ∙ ap (λ (es : Entries). count.Is (length es)) r.1 ∙ ap (λ (k : ℕ). count.Is k) (length_enter key v (listed a) (ascends a))
+      length_agrees r.0 ∙ ap (λ (es : Entries). Ok (length es)) r.1 ∙ ap (λ (k : ℕ). Ok k) (length_enter key v (listed a) (ascends a))
 
-  pub remove_counted : (k : ℕ) → length_of m n (removed_image m n ws key) ≡ count.Is k → length (listed a) ≡ cond (held key (listed a)) (suc k) k
+  pub remove_counted : (k : ℕ) → length_of m n (removed_image m n ws key) ≡ Ok k → length (listed a) ≡ cond (held key (listed a)) (suc k) k
   unfolding count_is
   remove_counted k e =
       let r = (remove_agrees a key).1 in
-      let left : length (erase key (listed a)) ≡ k = ap count_is (ap (λ (es : Entries). count.Is (length es)) (sym r.1) ∙ sym (length_agrees r.0) ∙ e) in
+      let left : length (erase key (listed a)) ≡ k = ap count_is (ap (λ (es : Entries). Ok (length es)) (sym r.1) ∙ sym (length_agrees r.0) ∙ e) in
       length_erase key (listed a) ∙ ap (λ (l : ℕ). cond (held key (listed a)) (suc l) l) left
 
 -- ---- one history
@@ -145,23 +142,23 @@ story =
 
 abbrev pub told : List Answer
 told =
-    count_from (count.Refused no.Damaged)
-    ∷ done_is (done.Refused no.Damaged)
-    ∷ done_is done.Yes
-    ∷ done_is done.Yes
-    ∷ got_is (got.Refused no.Absent)
-    ∷ count_from (count.Is 0)
+    count_from (Err no.Damaged)
+    ∷ done_is (Err no.Damaged)
+    ∷ done_is (Ok tt)
+    ∷ done_is (Ok tt)
+    ∷ got_is (Err no.Absent)
+    ∷ count_from (Ok 0)
     ∷ somewhere
-    ∷ got_is (got.Found (value 1))
-    ∷ count_from (count.Is 1)
+    ∷ got_is (Ok (value 1))
+    ∷ count_from (Ok 1)
     ∷ somewhere
-    ∷ got_is (got.Found (value 1))
-    ∷ got_is (got.Found (value 2))
-    ∷ count_from (count.Is 2)
-    ∷ done_is (done.Refused no.NotBlank)
-    ∷ got_is (got.Found (value 1))
-    ∷ got_is (got.Refused no.Absent)
-    ∷ count_from (count.Is 1)
+    ∷ got_is (Ok (value 1))
+    ∷ got_is (Ok (value 2))
+    ∷ count_from (Ok 2)
+    ∷ done_is (Err no.NotBlank)
+    ∷ got_is (Ok (value 1))
+    ∷ got_is (Err no.Absent)
+    ∷ count_from (Ok 1)
     ∷ []
 
 fits : (high low : ℕ) → high < 2 ^ 64 → low < 2 ^ 64 → Fits (record { high = high; low = low })
@@ -188,8 +185,8 @@ story_told = (history 4 8 (zero_words 4 8) blank (zeros_are 4 8 limits) story st
 pub none_fixed : (f : Call → Answer) → map indexless (answers 4 8 story (zero_words 4 8)) ≢ map f story
 none_fixed f e =
     let q : told ≡ map f story = sym story_told ∙ e in
-    let early : f (ask len) ≡ count_from (count.Is 0) = sym (ap (nth 5) q) in
-    let late : f (ask len) ≡ count_from (count.Is 1) = sym (ap (nth 8) q) in
+    let early : f (ask len) ≡ count_from (Ok 0) = sym (ap (nth 5) q) in
+    let late : f (ask len) ≡ count_from (Ok 1) = sym (ap (nth 8) q) in
     let z : ◌≡◌ {A = ℕ} 0 1 = ap counted (sym early ∙ late) in
     omega arith
   where
@@ -197,8 +194,8 @@ none_fixed f e =
     nth k xs = get_or xs k somewhere
 
     counted : Answer → ℕ
-    counted (count_from (count.Is k)) = k
-    counted (count_from (count.Refused r)) = 0
+    counted (count_from (Ok k)) = k
+    counted (count_from (Err r)) = 0
     counted (done_is d) = 0
     counted (got_is g) = 0
     counted (place_is p) = 0

@@ -1,8 +1,9 @@
 -- A listing that holds its image: what it is where it begins, what a step of it answers, and what it is after the step.
-use Rattle.std.specs.Prelude.{List, Bool, true, false, ℕ}
+use Rattle.std.specs.Prelude.{List, Bool, true, false, ℕ, Err, Ok, Result}
 use Rattle.std.specs.Borrow.{Bor}
-use Rattle.records.specs.declared.Entry.{Entry}
-use Rattle.records.specs.declared.Entry.TheVariants.{Is, Refused}
+use Rattle.records.specs.declared.Value.{Value}
+use Rattle.records.specs.declared.Refusal.{Refusal}
+use Rattle.keys.specs.declared.Key.{Key}
 use Rattle.records.specs.Layout.{image_of}
 use Rattle.listing.specs.declared.Position.{Position}
 use Rattle.listing.specs.declared.Stepped.{Stepped}
@@ -31,6 +32,6 @@ moved_on back l = placed l (held_step back l).position
 abbrev pub both_of : Listing → Ends
 both_of l = record { first = (held_step false l).entry; last = (held_step true (moved_on false l)).entry }
 
-abbrev pub is_entry : Entry → Bool
-is_entry (Is k v) = true
-is_entry (Refused r) = false
+abbrev pub is_entry : Result (Key × Value) Refusal → Bool
+is_entry (Ok (k, v)) = true
+is_entry (Err r) = false

@@ -7,8 +7,9 @@ ghost use Rattle.records.specs.Layout.{image_of};
 ghost use Rattle.listing.specs.Position.{made_of};
 ghost use Rattle.holding.specs.Held.{begun, held_step, moved_on, placed, both_of, is_entry};
 
+use keys::Key;
 use listing::{Position, step};
-use records::Entry;
+use records::{Refusal, Value};
 
 // The lent image, the numbers M and N that it is read by, and where the listing stands.
 #[derive(Clone, Copy)]
@@ -41,7 +42,7 @@ pub fn list<'a>(image: &'a [u8], m: u32, n: u32) -> Listing<'a>
 }
 
 // The next entry from the front. The position that is held moves on.
-pub fn next<'s, 'a>(l: &'s mut Listing<'a>) -> Entry
+pub fn next<'s, 'a>(l: &'s mut Listing<'a>) -> Result<(Key, Value), Refusal>
     ensures { (result ≡ (held_step false l.old).entry) × (l.new ≡ moved_on false l.old) }
 {
     let front = step::next(l.image, l.m, l.n, l.position);
@@ -50,7 +51,7 @@ pub fn next<'s, 'a>(l: &'s mut Listing<'a>) -> Entry
 }
 
 // The next entry from the back.
-pub fn next_back<'s, 'a>(l: &'s mut Listing<'a>) -> Entry
+pub fn next_back<'s, 'a>(l: &'s mut Listing<'a>) -> Result<(Key, Value), Refusal>
     ensures { (result ≡ (held_step true l.old).entry) × (l.new ≡ moved_on true l.old) }
 {
     let back = step::next_back(l.image, l.m, l.n, l.position);
@@ -73,8 +74,8 @@ pub fn moved<'a>(l: Listing<'a>, position: Position) -> Listing<'a>
 // What a listing gives first at its front, and then at its back.
 #[derive(Clone, Copy)]
 pub struct Ends {
-    pub first: Entry,
-    pub last: Entry,
+    pub first: Result<(Key, Value), Refusal>,
+    pub last: Result<(Key, Value), Refusal>,
 }
 
 // The first and the last entry of an image; of one entry alone the last is absent, since the ends have met.
@@ -91,10 +92,5 @@ pub fn first_and_last(image: &[u8], m: u32, n: u32) -> Ends
 pub fn has_entry(image: &[u8], m: u32, n: u32) -> bool
     ensures { result ≡ is_entry (held_step false (begun image.entry m n)).entry }
 {
-    let ends = first_and_last(image, m, n);
-    let first = ends.first;
-    match first {
-        Entry::Is(k, v) => true,
-        Entry::Refused(r) => false,
-    }
+    first_and_last(image, m, n).first.is_ok()
 }

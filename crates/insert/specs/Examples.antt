@@ -1,5 +1,7 @@
 -- The bench examples of insert (rules B1 and on), computed: "A is 2^127, B is 0, C is 1; M = 4, N = 8, 140 words (139 and 141: refusal 1)".
-use Rattle.std.specs.Prelude.{◌≡◌, refl, List, [], ◌∷◌, ℕ, zero, suc, ◌+◌, ◌^◌, set}
+use Rattle.std.specs.Prelude.{◌≡◌, refl, List, [], ◌∷◌, ℕ, zero, suc, ◌+◌, ◌^◌, set, Err, Ok, Result}
+use Rattle.records.specs.declared.Refusal.{Refusal}
+use Rattle.records.specs.declared.NodeIndex.{NodeIndex}
 use Rattle.words.specs.Wide.{wide_at, set_wide}
 use Rattle.words.specs.Zeros.{zeros_at}
 use Rattle.keys.specs.declared.Key.{Key}
@@ -7,8 +9,6 @@ use Rattle.keys.specs.Number.{number_of}
 use Rattle.keys.specs.Common.{common, common_of, bit_of}
 use Rattle.node_allocator.specs.Layout.{header_at, record_at, capacity_of, width_of, values_at}
 use Rattle.node_allocator.specs.Steps.{set_counts, get_register, set_register, never_used, taken, add_counts, add_image}
-use Rattle.records.specs.declared.Place.{Place}
-use Rattle.records.specs.declared.Place.TheVariants as place
 use Rattle.records.specs.declared.Refusal.TheVariants as no
 use Rattle.records.specs.declared.Value.{Value}
 use Rattle.records.specs.Layout.{image_length}
@@ -32,8 +32,8 @@ C = record { high = 0; low = 1 }
 abbrev value : ℕ → Value
 value k = record { first = k; second = k }
 
-abbrev at : ℕ → Place
-at i = place.At (record { 0 = i })
+abbrev at : ℕ → Result NodeIndex Refusal
+at i = Ok (record { 0 = i })
 
 unfoldable pub blank : ℕ → List ℕ
 blank zero = []
@@ -83,7 +83,7 @@ pub worked_inserts :
     × ((node_of three 5).key ≡ B)
     -- M = 1: A gives 1, A again refuses 3, old value kept
     × (insert_of 1 2 (started 1 2) A ≡ at 1)
-    × (insert_of 1 2 full A ≡ place.Refused no.Full)
+    × (insert_of 1 2 full A ≡ Err no.Full)
     × (insert_image 1 2 full A (value 2) ≡ full)
     × ((value_record_of 2 full 1).value ≡ value 1)
     -- M = 2: A twice gives 1 and 1, second value held
@@ -91,9 +91,9 @@ pub worked_inserts :
     × (insert_of 2 4 once A ≡ at 1)
     × ((value_record_of 4 twice 1).value ≡ value 2)
     -- 139 and 141 words; M 4 with N 7
-    × (insert_of 4 8 (blank 139) A ≡ place.Refused no.Shape)
-    × (insert_of 4 8 (blank 141) A ≡ place.Refused no.Shape)
-    × (insert_of 4 7 (started 4 7) A ≡ place.Refused no.Shape)
+    × (insert_of 4 8 (blank 139) A ≡ Err no.Shape)
+    × (insert_of 4 8 (blank 141) A ≡ Err no.Shape)
+    × (insert_of 4 7 (started 4 7) A ≡ Err no.Shape)
 unfolding
     wide_at set_wide zeros_at number_of common common_of bit_of header_at record_at capacity_of width_of set_counts get_register set_register never_used taken add_counts add_image
     header_of front_of spare_of node_of padding_of record_from registers_set key_set node_set set_node value_set live_record set_value

@@ -1,6 +1,8 @@
 -- What insert finds out before it writes: rules S5 to S8 and S13. Everything is tested on the image as it was before the call, and the plan carries what
 -- was found: the header, the node that is split and how many bits it shares with the key.
-use Rattle.std.specs.Prelude.{List, Bool, cond, ◌&&◌, ℕ, ◌+◌, eqb, leb, ltb}
+use Rattle.std.specs.Prelude.{List, Bool, cond, ◌&&◌, ℕ, ◌+◌, eqb, leb, ltb, Option, Some, None, Err, Ok, Result}
+use Rattle.records.specs.declared.NodeIndex.{NodeIndex}
+use Rattle.records.specs.declared.Refusal.{Refusal}
 use Rattle.keys.specs.declared.Key.{Key}
 use Rattle.node_allocator.specs.Steps.{never_used}
 use Rattle.node_allocator.specs.declared.Arena.TheVariants.{Nodes, Values}
@@ -12,7 +14,7 @@ use Rattle.descent.specs.declared.Stop.{Stop}
 use Rattle.descent.specs.declared.Stop.TheVariants as stop
 use Rattle.descent.specs.Descent.{find_of}
 use Rattle.insert.specs.declared.Plan.{Plan}
-use Rattle.insert.specs.declared.Plan.TheVariants.{First, Replace, Split, Refused}
+use Rattle.insert.specs.declared.Plan.TheVariants.{First, Replace, Split}
 
 -- ---- the records that it will take
 
@@ -25,7 +27,11 @@ taken_node n h ws i =
 unfoldable pub next_node : Header → List ℕ → ℕ → ℕ
 next_node h ws i = cond (eqb i h.nodes.bump) (i + 1) (node_of ws i).left.0
 
--- the same for value records, of which one is taken
+-- the node that is taken after the one at the head, if that may be taken
+unfoldable pub behind_head : ℕ → Header → List ℕ → Option NodeIndex
+behind_head n h ws = cond (taken_node n h ws h.nodes.head) (Some (record { 0 = next_node h ws h.nodes.head })) None
+
+-- the same as `taken_node` for value records, of which one is taken
 unfoldable pub taken_value : ℕ → ℕ → Header → List ℕ → ℕ → Bool
 taken_value m n h ws j =
     cond (ltb j h.values.bump) (free_value h j (value_record_of n ws j)) (leb j m && never_used (Values n m) ws j)
@@ -41,12 +47,12 @@ split_tests m n h ws = leaf_tests m n h ws && taken_node n h ws (next_node h ws 
 
 -- at the equal leaf its value record is tested; at the node where the key parts, its children if it is inner, and the two nodes and the value record that
 -- are taken; the empty map takes one node and one value record
-unfoldable pub stop_plan : ℕ → ℕ → Header → List ℕ → Stop → Plan
-stop_plan m n h ws (stop.Leaf i x) = cond (live_value n ws i.0 x.value.0) (Replace i x.value) (Refused no.Damaged)
-stop_plan m n h ws (stop.Parted i x shared) = cond (kids_ok h ws i.0 x && split_tests m n h ws) (Split h i x shared) (Refused no.Damaged)
-stop_plan m n h ws stop.Empty = cond (leaf_tests m n h ws) (First h) (Refused no.Damaged)
-stop_plan m n h ws stop.Damaged = Refused no.Damaged
+unfoldable pub stop_plan : ℕ → ℕ → Header → List ℕ → Stop → Result Plan Refusal
+stop_plan m n h ws (stop.Leaf i x) = cond (live_value n ws i.0 x.value.0) (Ok (Replace i x.value)) (Err no.Damaged)
+stop_plan m n h ws (stop.Parted i x shared) = cond (kids_ok h ws i.0 x && split_tests m n h ws) (Ok (Split h i x shared)) (Err no.Damaged)
+stop_plan m n h ws stop.Empty = cond (leaf_tests m n h ws) (Ok (First h)) (Err no.Damaged)
+stop_plan m n h ws stop.Damaged = Err no.Damaged
 
 -- it refuses when n = M, then descends
-unfoldable pub insert_plan : ℕ → ℕ → Header → List ℕ → Key → Plan
-insert_plan m n h ws key = cond (eqb h.values.size m) (Refused no.Full) (stop_plan m n h ws (find_of h ws key))
+unfoldable pub insert_plan : ℕ → ℕ → Header → List ℕ → Key → Result Plan Refusal
+insert_plan m n h ws key = cond (eqb h.values.size m) (Err no.Full) (stop_plan m n h ws (find_of h ws key))

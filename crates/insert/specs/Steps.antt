@@ -1,6 +1,8 @@
 -- The words that insert leaves, and its answer: rules S5 to S9. The records are taken in the Rust's order, the new leaf's node, its value record, the copy's
 -- node; then each record that changes is stored as a whole, so that the words are those that `add_leaf`, `duplicate` and `replace_node` of critbit.rs leave.
-use Rattle.std.specs.Prelude.{List, cond, ℕ, set}
+use Rattle.std.specs.Prelude.{List, cond, ℕ, set, Err, Ok, Result}
+use Rattle.records.specs.declared.Refusal.{Refusal}
+use Rattle.records.specs.declared.NodeIndex.{NodeIndex}
 use Rattle.keys.specs.declared.Key.{Key}
 use Rattle.keys.specs.Number.{number_of}
 use Rattle.keys.specs.Common.{bit_of}
@@ -10,15 +12,11 @@ use Rattle.node_allocator.specs.Steps.{set_register, add_counts, add_image}
 use Rattle.records.specs.declared.Header.{Header}
 use Rattle.records.specs.declared.Node.{Node}
 use Rattle.records.specs.declared.Value.{Value}
-use Rattle.inspection.specs.declared.Opened.{Opened}
-use Rattle.inspection.specs.declared.Opened.TheVariants.{Good, Shut}
-use Rattle.records.specs.declared.Place.{Place}
-use Rattle.records.specs.declared.Place.TheVariants as place
 use Rattle.records.specs.Records.{leaf_node, inner_node, with_parent}
 use Rattle.records.specs.Writes.{set_node, live_record, set_value}
 use Rattle.inspection.specs.Opening.{open_of}
 use Rattle.insert.specs.declared.Plan.{Plan}
-use Rattle.insert.specs.declared.Plan.TheVariants.{First, Replace, Split, Refused}
+use Rattle.insert.specs.declared.Plan.TheVariants.{First, Replace, Split}
 use Rattle.insert.specs.Plan.{insert_plan}
 
 -- ---- the records that are taken: they are the heads of the header h
@@ -59,25 +57,25 @@ unfoldable pub split_image : ℕ → ℕ → List ℕ → Header → ℕ → Nod
 split_image m n ws h i x shared key v =
     forked n (adopted n (both_taken m n ws h v) (copy_index n ws h) x.left.0 x.right.0) i x shared key h.nodes.head h.values.head (copy_index n ws h)
 
-unfoldable pub plan_image : ℕ → ℕ → List ℕ → Key → Value → Plan → List ℕ
-plan_image m n ws key v (First h) = first_image m n ws h key v
-plan_image m n ws key v (Replace i j) = set_value m n ws j.0 (live_record i.0 v)
-plan_image m n ws key v (Split h i x shared) = split_image m n ws h i.0 x shared key v
-plan_image m n ws key v (Refused r) = ws
+unfoldable pub plan_image : ℕ → ℕ → List ℕ → Key → Value → Result Plan Refusal → List ℕ
+plan_image m n ws key v (Ok (First h)) = first_image m n ws h key v
+plan_image m n ws key v (Ok (Replace i j)) = set_value m n ws j.0 (live_record i.0 v)
+plan_image m n ws key v (Ok (Split h i x shared)) = split_image m n ws h i.0 x shared key v
+plan_image m n ws key v (Err r) = ws
 
 -- the new leaf's index, or the equal leaf's
-unfoldable pub plan_place : Plan → Place
-plan_place (First h) = place.At (record { 0 = h.nodes.head })
-plan_place (Replace i j) = place.At i
-plan_place (Split h i x shared) = place.At (record { 0 = h.nodes.head })
-plan_place (Refused r) = place.Refused r
+unfoldable pub plan_place : Result Plan Refusal → Result NodeIndex Refusal
+plan_place (Ok (First h)) = Ok (record { 0 = h.nodes.head })
+plan_place (Ok (Replace i j)) = Ok i
+plan_place (Ok (Split h i x shared)) = Ok (record { 0 = h.nodes.head })
+plan_place (Err r) = Err r
 
-unfoldable pub opened_plan : ℕ → ℕ → List ℕ → Key → Opened → Plan
-opened_plan m n ws key (Good h) = insert_plan m n h ws key
-opened_plan m n ws key (Shut r) = Refused r
+unfoldable pub opened_plan : ℕ → ℕ → List ℕ → Key → Result Header Refusal → Result Plan Refusal
+opened_plan m n ws key (Ok h) = insert_plan m n h ws key
+opened_plan m n ws key (Err r) = Err r
 
 -- insert's answer, and the image afterwards
-unfoldable pub insert_of : ℕ → ℕ → List ℕ → Key → Place
+unfoldable pub insert_of : ℕ → ℕ → List ℕ → Key → Result NodeIndex Refusal
 insert_of m n ws key = plan_place (opened_plan m n ws key (open_of m n ws))
 
 unfoldable pub insert_image : ℕ → ℕ → List ℕ → Key → Value → List ℕ

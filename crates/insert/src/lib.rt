@@ -7,7 +7,7 @@ mod steps; // steps.rt: what it writes
 
 ghost use Rattle.std.specs.Prelude.{◌≡◌};
 ghost use Rattle.records.specs.Layout.{image_of};
-ghost use Rattle.records.specs.Numbers.{place_number};
+ghost use Rattle.records.specs.Numbers.{answer_number};
 ghost use Rattle.inspection.specs.Outcome.{Leaves};
 ghost use Rattle.insert.specs.Steps.{insert_of, insert_image};
 
@@ -15,36 +15,34 @@ use crate::steps::{first, split};
 use crate::tests::plan;
 use keys::Key;
 use records::write::{live_record, set_value};
-use records::{Header, Node, NodeIndex, Place, Refusal, Value, ValueIndex};
+use records::{Header, Node, NodeIndex, Refusal, Value, ValueIndex};
 
-// What insert is going to do, found out before any write: a first leaf; the value of an equal leaf replaced; a node split,
-// of which the key shares so many bits; or nothing. The header that was read goes along.
+// What insert is going to do, found out before any write: a first leaf; the value of an equal leaf replaced; or a node
+// split, of which the key shares so many bits. The header that was read goes along.
 #[derive(Clone, Copy)]
 pub enum Plan {
     First(Header),
     Replace(NodeIndex, ValueIndex),
     Split(Header, NodeIndex, Node, u64),
-    Refused(Refusal),
 }
 
 // Puts a key and its value into the map. The answer is the leaf's index, or refusal 1, 2 or 3.
-pub fn insert(img: &mut [u8], m: u32, n: u32, key: Key, v: Value) -> Place
+pub fn insert(img: &mut [u8], m: u32, n: u32, key: Key, v: Value) -> Result<NodeIndex, Refusal>
     ensures answer { result ≡ insert_of m n (image_of img.old) key }
-    ensures image { Leaves img.old img.new (place_number (insert_of m n (image_of img.old) key)) (insert_image m n (image_of img.old) key v) }
+    ensures image { Leaves img.old img.new (answer_number (insert_of m n (image_of img.old) key)) (insert_image m n (image_of img.old) key v) }
 {
-    match plan(img, m, n, key) {
+    match plan(img, m, n, key)? {
         Plan::Split(h, i, x, shared) => {
             split(img, m, n, h, i, x, shared, key, v);
-            Place::At(NodeIndex(h.nodes.head))
+            Ok(NodeIndex(h.nodes.head))
         }
         Plan::Replace(i, j) => {
             set_value(img, m, n, j, live_record(i, v));
-            Place::At(i)
+            Ok(i)
         }
         Plan::First(h) => {
             first(img, m, n, h, key, v);
-            Place::At(NodeIndex(h.nodes.head))
+            Ok(NodeIndex(h.nodes.head))
         }
-        Plan::Refused(r) => Place::Refused(r),
     }
 }

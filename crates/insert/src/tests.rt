@@ -7,7 +7,7 @@ ghost use Rattle.node_allocator.specs.Steps.{never_used};
 ghost use Rattle.records.specs.Layout.{image_of};
 ghost use Rattle.inspection.specs.Opening.{open_of};
 ghost use Rattle.descent.specs.declared.Stop.TheVariants.{Leaf, Parted, Empty};
-ghost use Rattle.insert.specs.Plan.{taken_node, next_node, taken_value, leaf_tests, split_tests, stop_plan, insert_plan};
+ghost use Rattle.insert.specs.Plan.{taken_node, behind_head, taken_value, leaf_tests, split_tests, stop_plan, insert_plan};
 ghost use Rattle.insert.specs.Ready.{Ready};
 ghost use Rattle.insert.specs.Steps.{opened_plan};
 
@@ -16,20 +16,12 @@ use descent::{Stop, find};
 use inspection::open::open_image;
 use inspection::tests::{free_node, free_value};
 use inspection::visit::{kids_ok, live_value};
-use inspection::{Live, Opened};
 use keys::Key;
 use node_allocator::{Arena, never_used};
 use records::read::{node_in, value_record};
 use records::{Header, Node, NodeIndex, Refusal, ValueIndex};
 
 // ---- the records that it will take
-
-// The node at the head: whether it may be taken, and the node that is taken after it.
-#[derive(Clone, Copy)]
-struct Head {
-    passes: bool,
-    next: NodeIndex,
-}
 
 // A node from the bump on: up to N it was never used.
 fn fresh_node(img: &[u8], n: u32, i: NodeIndex) -> bool
@@ -53,24 +45,21 @@ fn taken_node(img: &[u8], m: u32, n: u32, h: Header, i: NodeIndex) -> bool
     fresh_node(img, n, i)
 }
 
-// The node at the head.
-fn head_node(img: &[u8], m: u32, n: u32, h: Header) -> Head
+// The node that is taken after the one at the head, if that may be taken.
+fn behind_head(img: &[u8], m: u32, n: u32, h: Header) -> Option<NodeIndex>
     requires { Ready m n h (length (words img.now)) }
-    ensures { (result.passes ≡ taken_node n h (words img.now) h.nodes.head) × (result.next.0 ≡ next_node h (words img.now) h.nodes.head) }
+    ensures { result ≡ behind_head n h (words img.now) }
 {
     let i = NodeIndex(h.nodes.head);
     if i.0 < h.nodes.bump {
         let x = node_in(img, i);
-        let next = x.left;
-        return Head {
-            passes: free_node(img, h, i, x),
-            next,
-        };
+        if free_node(img, h, i, x) {
+            return Some(x.left);
+        }
+    } else if fresh_node(img, n, i) {
+        return Some(NodeIndex(i.0 + 1));
     }
-    Head {
-        passes: fresh_node(img, n, i),
-        next: NodeIndex(i.0 + 1),
-    }
+    None
 }
 
 // The value record that is taken.
@@ -105,69 +94,85 @@ fn split_tests(img: &[u8], m: u32, n: u32, h: Header) -> bool
     requires { Ready m n h (length (words img.now)) }
     ensures { result ≡ split_tests m n h (words img.now) }
 {
-    let head = head_node(img, m, n, h);
-    if head.passes & taken_value(img, m, n, h, ValueIndex(h.values.head)) {
-        return taken_node(img, m, n, h, head.next);
+    match behind_head(img, m, n, h) {
+        Some(next) => taken_value(img, m, n, h, ValueIndex(h.values.head))
+            & taken_node(img, m, n, h, next),
+        None => false,
     }
-    false
 }
 
 // ---- the plan
 
 // At node `i`, whose record is `x`, where the key parts from the map.
-fn split_plan(img: &[u8], m: u32, n: u32, h: Header, i: NodeIndex, x: Node, shared: u64) -> Plan
+#[tactic(auto, unfolding(crate::specs::Plan::stop_plan))]
+fn split_plan(
+    img: &[u8],
+    m: u32,
+    n: u32,
+    h: Header,
+    i: NodeIndex,
+    x: Node,
+    shared: u64,
+) -> Result<Plan, Refusal>
     requires { Ready m n h (length (words img.now)) }
     ensures { result ≡ stop_plan m n h (words img.now) (Parted i x shared) }
 {
     if kids_ok(img, h, i, x) & split_tests(img, m, n, h) {
-        return Plan::Split(h, i, x, shared);
+        return Ok(Plan::Split(h, i, x, shared));
     }
-    Plan::Refused(Refusal::Damaged)
+    Err(Refusal::Damaged)
 }
 
 // At the equal leaf.
-fn replace_plan(img: &[u8], m: u32, n: u32, h: Header, i: NodeIndex, x: Node) -> Plan
+#[tactic(auto, using(inspection::specs::Visit::live_tested), unfolding(crate::specs::Plan::stop_plan))]
+fn replace_plan(
+    img: &[u8],
+    m: u32,
+    n: u32,
+    h: Header,
+    i: NodeIndex,
+    x: Node,
+) -> Result<Plan, Refusal>
     ensures { result ≡ stop_plan m n h (words img.now) (Leaf i x) }
 {
-    let j = x.value;
-    match live_value(img, n, i, j) {
-        Live::Holds(_) => Plan::Replace(i, j),
-        Live::Not => Plan::Refused(Refusal::Damaged),
+    if live_value(img, n, i, x.value).is_some() {
+        return Ok(Plan::Replace(i, x.value));
     }
+    Err(Refusal::Damaged)
 }
 
 // Into the empty map.
-fn first_plan(img: &[u8], m: u32, n: u32, h: Header) -> Plan
+#[tactic(auto, unfolding(crate::specs::Plan::stop_plan))]
+fn first_plan(img: &[u8], m: u32, n: u32, h: Header) -> Result<Plan, Refusal>
     requires { Ready m n h (length (words img.now)) }
     ensures { result ≡ stop_plan m n h (words img.now) Empty }
 {
     if leaf_tests(img, m, n, h) {
-        return Plan::First(h);
+        return Ok(Plan::First(h));
     }
-    Plan::Refused(Refusal::Damaged)
+    Err(Refusal::Damaged)
 }
 
-fn plan_of(img: &[u8], m: u32, n: u32, h: Header, key: Key) -> Plan
+fn plan_of(img: &[u8], m: u32, n: u32, h: Header, key: Key) -> Result<Plan, Refusal>
     requires { Ready m n h (length (words img.now)) }
     ensures { result ≡ insert_plan m n h (words img.now) key }
 {
     if h.values.size == (m as u64) {
-        return Plan::Refused(Refusal::Full);
+        return Err(Refusal::Full);
     }
     match find(img, h, key) {
         Stop::Parted(i, x, shared) => split_plan(img, m, n, h, i, x, shared),
         Stop::Leaf(i, x) => replace_plan(img, m, n, h, i, x),
         Stop::Empty => first_plan(img, m, n, h),
-        Stop::Damaged => Plan::Refused(Refusal::Damaged),
+        Stop::Damaged => Err(Refusal::Damaged),
     }
 }
 
 // What insert is going to do: shape and header first.
-pub fn plan(img: &[u8], m: u32, n: u32, key: Key) -> Plan
+#[tactic(auto, using(inspection::specs::Room::opened_words, crate::specs::Ready::ready), unfolding(crate::specs::Steps::opened_plan))]
+pub fn plan(img: &[u8], m: u32, n: u32, key: Key) -> Result<Plan, Refusal>
     ensures { result ≡ opened_plan m n (image_of img.now) key (open_of m n (image_of img.now)) }
 {
-    match open_image(img, m, n) {
-        Opened::Good(h) => plan_of(img, m, n, h, key),
-        Opened::Shut(r) => Plan::Refused(r),
-    }
+    let h = open_image(img, m, n)?;
+    plan_of(img, m, n, h, key)
 }

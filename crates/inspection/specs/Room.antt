@@ -1,12 +1,11 @@
 -- What an opened image gives: it is a whole number of words, as many as M and N ask for, and it has room for every record below a bump.
-use Rattle.std.specs.Prelude.{◌≡◌, refl, List, [], Bool, true, false, cond, ◌&&◌, ℕ, ◌+◌, ◌*◌, ◌%◌, ◌≤◌, ◌<◌, length, eqb}
+use Rattle.std.specs.Prelude.{◌≡◌, refl, List, [], Bool, true, false, cond, ◌&&◌, ℕ, ◌+◌, ◌*◌, ◌%◌, ◌≤◌, ◌<◌, length, eqb, Err, Ok}
 use Rattle.std.proofs.Common.{sym, ap, ◌∙◌, true≢false, arith, leb-true, ltb-true, eqb-true, eq-eqb, ne_eqb}
 use Rattle.std.proofs.Math.Decide.{ℕ_discrete}
 use Rattle.words.specs.Tests.{and_l, and_r}
 use Rattle.words.specs.Words.{words, words_length}
 use Rattle.records.specs.declared.Header.{Header}
 use Rattle.records.specs.declared.Refusal.{Refusal}
-use Rattle.inspection.specs.declared.Opened.TheVariants.{Good, Shut}
 use Rattle.records.specs.Layout.{image_of, image_length, most_values, most_nodes}
 use Rattle.records.specs.Records.{header_of}
 use Rattle.inspection.specs.Tests.{shape_ok, bytes_ok, arena_ok, header_ok, front_ok, spare_ok, top_ok, used_node}
@@ -30,16 +29,16 @@ shaped m n count e =
       words = eqb-true count (image_length m n) (search (and_l, and_r));
     }
 
-never_good : {r : Refusal} {h : Header} → Shut r ≡ Good h → ⊥
+never_good : {r : Refusal} {h : Header} → Err r ≡ Ok h → ⊥
 never_good e = let z : ◌≡◌ {A = ℕ} 0 1 = cc in omega arith
 
-opened : (a b : Bool) (g h : Header) (r s : Refusal) → cond a (cond b (Good g) (Shut r)) (Shut s) ≡ Good h
+opened : (a b : Bool) (g h : Header) (r s : Refusal) → cond a (cond b (Ok g) (Err r)) (Err s) ≡ Ok h
     → (a ≡ true) × (b ≡ true) × (g ≡ h)
 opened true true g h r s e = (refl, refl, cc)
 opened true false g h r s e = absurd (never_good e)
 opened false b g h r s e = absurd (never_good e)
 
-module _ (m n : ℕ) (ws : List ℕ) (h : Header) (good : open_of m n ws ≡ Good h) where
+module _ (m n : ℕ) (ws : List ℕ) (h : Header) (good : open_of m n ws ≡ Ok h) where
   parts : (shape_ok m n (length ws) ≡ true) × (top_ok m n ws ≡ true) × (header_of n ws ≡ h)
   unfolding open_of open_shaped
   parts = opened (shape_ok m n (length ws)) (top_ok m n ws) (header_of n ws) h _ _ good
@@ -55,11 +54,11 @@ module _ (m n : ℕ) (ws : List ℕ) (h : Header) (good : open_of m n ws ≡ Goo
   open_passed = rw (sym parts.2) (and_r (front_ok ws && spare_ok ws) (header_ok m n (header_of n ws)) parts.1)
 
 -- an image of the right shape whose header passes is opened
-pub shaped_opens : (m n : ℕ) (ws : List ℕ) (h : Header) → shape_ok m n (length ws) ≡ true → open_shaped m n ws ≡ Good h → open_of m n ws ≡ Good h
+pub shaped_opens : (m n : ℕ) (ws : List ℕ) (h : Header) → shape_ok m n (length ws) ≡ true → open_shaped m n ws ≡ Ok h → open_of m n ws ≡ Ok h
 unfolding open_of
 shaped_opens m n ws h s e = rw s e
 
-pub shaped_shut : (m n : ℕ) (ws : List ℕ) (r : Refusal) → shape_ok m n (length ws) ≡ true → open_shaped m n ws ≡ Shut r → open_of m n ws ≡ Shut r
+pub shaped_shut : (m n : ℕ) (ws : List ℕ) (r : Refusal) → shape_ok m n (length ws) ≡ true → open_shaped m n ws ≡ Err r → open_of m n ws ≡ Err r
 unfolding open_of
 shaped_shut m n ws r s e = rw s e
 
@@ -80,7 +79,7 @@ value_bump m n h e =
 abbrev pub Room : Header → ℕ → Type 0
 Room h count = 12 * h.nodes.bump ≤ count + 4
 
-pub room : (m n : ℕ) (ws : List ℕ) (h : Header) → open_of m n ws ≡ Good h → Room h (length ws)
+pub room : (m n : ℕ) (ws : List ℕ) (h : Header) → open_of m n ws ≡ Ok h → Room h (length ws)
 room m n ws h e =
     omega (arith, (open_shaped_lem m n ws h e).words, node_bump m n h (open_passed m n ws h e))
 
@@ -106,7 +105,7 @@ image_words m n bytes e = go (eqb (length bytes % 4) 0) (shaped m n _ e).words
     go true l = refl
     go false l = absurd (omega arith)
 
-pub opened_words : (m n : ℕ) (bytes : List ℕ) (h : Header) → open_of m n (image_of bytes) ≡ Good h → image_of bytes ≡ words bytes
+pub opened_words : (m n : ℕ) (bytes : List ℕ) (h : Header) → open_of m n (image_of bytes) ≡ Ok h → image_of bytes ≡ words bytes
 opened_words m n bytes h e = image_words m n bytes (parts m n (image_of bytes) h e).0
 
 pub shaped_whole : (m n : ℕ) (bytes : List ℕ) → shape_ok m n (length (image_of bytes)) ≡ true → length bytes % 4 ≡ 0
@@ -117,7 +116,7 @@ shaped_whole m n bytes e = go (eqb (length bytes % 4) 0) refl (shaped m n _ e).w
     go true t l = eqb-true (length bytes % 4) 0 t
     go false t l = absurd (omega arith)
 
-pub opened_whole : (m n : ℕ) (bytes : List ℕ) (h : Header) → open_of m n (image_of bytes) ≡ Good h → length bytes % 4 ≡ 0
+pub opened_whole : (m n : ℕ) (bytes : List ℕ) (h : Header) → open_of m n (image_of bytes) ≡ Ok h → length bytes % 4 ≡ 0
 opened_whole m n bytes h e = shaped_whole m n bytes (parts m n (image_of bytes) h e).0
 
 -- ---- the buffer of an image in bytes
@@ -148,5 +147,5 @@ shaped_bytes m n bytes e =
     let same : length (words bytes) ≡ image_length m n = ap length (sym (image_words m n bytes e)) ∙ (shaped m n _ e).words in
     omega (arith, words_length bytes)
 
-pub opened_bytes : (m n : ℕ) (bytes : List ℕ) (h : Header) → open_of m n (image_of bytes) ≡ Good h → length bytes ≡ 48 * n + 32 * m + 48
+pub opened_bytes : (m n : ℕ) (bytes : List ℕ) (h : Header) → open_of m n (image_of bytes) ≡ Ok h → length bytes ≡ 48 * n + 32 * m + 48
 opened_bytes m n bytes h e = shaped_bytes m n bytes (parts m n (image_of bytes) h e).0

@@ -2,19 +2,18 @@
 -- first what both kinds share and then asks for the node's kind, and `visit_kind` and `first_kind` say that this is the same.
 use Rattle.std.proofs.Math.Path.{◌≡◌, refl}
 use Rattle.std.proofs.Common.{sym, ◌∙◌, inl, inr, ⊎_elim, eq-zero-or-pos}
-use Rattle.std.specs.Prelude.{List, ◌⊎◌, Bool, ◌&&◌, ◌||◌, ℕ, ◌≤◌, ◌<◌, ltb}
+use Rattle.std.specs.Prelude.{List, ◌⊎◌, Bool, is_some, ◌&&◌, ◌||◌, ℕ, ◌≤◌, ◌<◌, ltb, None, Option, Some}
 use Rattle.std.proofs.Math.Bool.{true, false, cond}
 use native.Mathlib.Omega.{arith}
 use Rattle.std.proofs.Math.Dec.{eqb, leb}
 use borrow.Author.Tests.{leb-true, ltb-true, eqb-true, eq-eqb, le-leb}
+use Rattle.records.specs.declared.Value.{Value}
 use Rattle.words.specs.Tests.{and_l, and_r, or_cases}
 use Rattle.records.specs.declared.Header.{Header}
 use Rattle.records.specs.declared.Node.{Node}
 use Rattle.records.specs.Records.{node_of, value_record_of}
 use Rattle.inspection.specs.declared.Visited.{Visited}
 use Rattle.inspection.specs.declared.Visited.TheVariants.{Inner, Leaf, Damaged}
-use Rattle.inspection.specs.declared.Live.{Live}
-use Rattle.inspection.specs.declared.Live.TheVariants.{Holds, Not}
 use Rattle.inspection.specs.Tests.{used_node, padding_ok, leaf_form, is_leaf, inner_form, is_fork, form_ok, node_ok, live_value}
 
 -- a node that passes, by its kind
@@ -29,18 +28,14 @@ unfoldable pub first_of : Header → List ℕ → ℕ → Visited
 first_of h ws i = cond (form_ok h ws i) (kind_of (node_of ws i)) Damaged
 
 -- the value that a leaf's record holds, where the record passes
-unfoldable pub live_of : ℕ → List ℕ → ℕ → ℕ → Live
-live_of n ws leaf j = cond (live_value n ws leaf j) (Holds (value_record_of n ws j).value) Not
+unfoldable pub live_of : ℕ → List ℕ → ℕ → ℕ → Option Value
+live_of n ws leaf j = cond (live_value n ws leaf j) (Some (value_record_of n ws j).value) None
 
-unfoldable pub passes : Live → Bool
-passes (Holds v) = true
-passes Not = false
-
-pub live_tested : (n : ℕ) (ws : List ℕ) (leaf j : ℕ) → passes (live_of n ws leaf j) ≡ live_value n ws leaf j
-unfolding live_of passes
+pub live_tested : (n : ℕ) (ws : List ℕ) (leaf j : ℕ) → is_some (live_of n ws leaf j) ≡ live_value n ws leaf j
+unfolding live_of
 live_tested n ws leaf j = go (live_value n ws leaf j)
   where
-    go : (b : Bool) → passes (cond b (Holds (value_record_of n ws j).value) Not) ≡ b
+    go : (b : Bool) → is_some (cond b (Some (value_record_of n ws j).value) None) ≡ b
     go true = refl
     go false = refl
 

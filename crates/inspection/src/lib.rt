@@ -5,14 +5,7 @@ pub mod tests; // tests.rt: the tests of a record
 pub mod visit; // visit.rt: a visited node, its children, and a leaf's value record
 pub mod open; // open.rt: shape and header, which every call tests first
 
-use records::{Header, Node, Refusal, Value};
-
-// The header of an image that passes the shape's and the header's tests, or the refusal.
-#[derive(Clone, Copy)]
-pub enum Opened {
-    Good(Header),
-    Shut(Refusal),
-}
+use records::Node;
 
 // A visited node that passes, by its kind; or damage.
 #[derive(Clone, Copy)]
@@ -20,11 +13,4 @@ pub enum Visited {
     Inner(Node),
     Leaf(Node),
     Damaged,
-}
-
-// What a leaf's value record holds, if it passes.
-#[derive(Clone, Copy)]
-pub enum Live {
-    Holds(Value),
-    Not,
 }

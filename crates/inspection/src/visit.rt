@@ -3,12 +3,12 @@ ghost use Rattle.std.specs.Prelude.{◌≡◌, ◌+◌, ◌*◌, ◌≤◌, leng
 ghost use Rattle.words.specs.Words.{words};
 ghost use Rattle.inspection.specs.Room.{Room};
 ghost use Rattle.inspection.specs.Tests.{node_ok, root_ok, kids_ok};
-ghost use Rattle.inspection.specs.Visit.{of_kind, by_kind, visit_of, first_of, live_of, passes};
+ghost use Rattle.inspection.specs.Visit.{of_kind, by_kind, visit_of, first_of, live_of};
 
+use crate::Visited;
 use crate::tests::{inner_form, is_used, leaf_form, padding_ok};
-use crate::{Live, Visited};
 use records::read::{node_in, value_record};
-use records::{Header, Node, NodeIndex, ValueIndex};
+use records::{Header, Node, NodeIndex, Value, ValueIndex};
 
 // A node that has passed what is tested of both kinds, by its own.
 fn of_kind(h: Header, x: Node) -> Visited
@@ -106,24 +106,13 @@ pub fn kids_ok(img: &[u8], h: Header, i: NodeIndex, x: Node) -> bool
     true
 }
 
-// The value that record `j` of leaf `leaf` holds: its four registers are 0.
-pub fn live_value(img: &[u8], n: u32, leaf: NodeIndex, j: ValueIndex) -> Live
+// The value that record `j` of leaf `leaf` holds, if it passes: its four registers are 0.
+pub fn live_value(img: &[u8], n: u32, leaf: NodeIndex, j: ValueIndex) -> Option<Value>
     ensures { result ≡ live_of n (words img.now) leaf.0 j.0 }
 {
     let r = value_record(img, n, j);
     if (r.register0 == 0) & (r.register1 == 0) & (r.register2 == 0) & (r.register3 == 0) {
-        let v = r.value;
-        return Live::Holds(v);
+        return Some(r.value);
     }
-    Live::Not
-}
-
-// Whether a leaf's value record passed.
-pub fn is_live(live: Live) -> bool
-    ensures { result ≡ passes live }
-{
-    match live {
-        Live::Holds(_) => true,
-        Live::Not => false,
-    }
+    None
 }

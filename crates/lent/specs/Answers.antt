@@ -1,8 +1,7 @@
 -- The demands for the bytes that a call is lent: every word of their image is a 32-bit word, so that what the theorems ask of words is so of every buffer.
-use Rattle.std.specs.Prelude.{◌≡◌, refl, List, [], Bool, true, false, cond, ℕ, ◌+◌, ◌*◌, ◌%◌, ◌^◌, ◌≤◌, ◌<◌, length, get_or, eqb, leb}
+use Rattle.std.specs.Prelude.{◌≡◌, refl, List, [], Bool, true, false, cond, ℕ, ◌+◌, ◌*◌, ◌%◌, ◌^◌, ◌≤◌, ◌<◌, length, get_or, eqb, leb, Ok}
 use Rattle.std.proofs.Common.{arith, leb-true, leb-false}
 use Rattle.words.specs.Words.{words, words_length, words_at, words_past, Bytes}
-use Rattle.records.specs.declared.Done.TheVariants as done
 use Rattle.records.specs.Layout as layout
 use Rattle.inspection.specs.Room.{Shaped}
 use Rattle.full_check.specs.Check.{check_of}
@@ -33,7 +32,7 @@ lent_small bytes b = go (eqb (length bytes % 4) 0)
     go false = λ k. omega arith
 
 -- On every buffer that the full check accepts, with whatever bytes for its scratch, each call answers as one ascending list does, and leaves an accepted image.
-pub lent_answers : (m n : ℕ) (bytes scratch : List ℕ) → Bytes bytes → check_of m n (layout.image_of bytes) (words scratch) ≡ done.Yes
+pub lent_answers : (m n : ℕ) (bytes scratch : List ℕ) → Bytes bytes → check_of m n (layout.image_of bytes) (words scratch) ≡ Ok tt
     → (es : Entries) × Rising es × ((c : Call) → Fitting c → AsTheList m n (layout.image_of bytes) c es)
 lent_answers m n bytes scratch b e = answers_as_one_list m n (layout.image_of bytes) (words scratch) (lent_small bytes b) e
 

@@ -1,16 +1,14 @@
 -- The board in bytes: once the full check has answered 0, lookups on the same image answer 0 or 4, as long as nobody changes it, and they are those of one ascending list.
-use Rattle.std.specs.Prelude.{◌≡◌, refl, List, ◌++◌, ◌⊎◌, ℕ, ◌≤◌, length, drop, replicate}
+use Rattle.std.specs.Prelude.{◌≡◌, refl, List, ◌++◌, ◌⊎◌, ℕ, ◌≤◌, length, drop, replicate, Err, Ok, Result}
 use Rattle.std.proofs.Common.{ap, ◌∙◌, inl, inr, arith}
 use Rattle.std.proofs.Math.Option.{Option, none, some}
+use Rattle.records.specs.declared.Refusal.{Refusal}
 use Rattle.words.specs.Words.{words, Bytes}
 use Rattle.keys.specs.declared.Key.{Key}
 use Rattle.records.specs.declared.Value.{Value}
 use Rattle.records.specs.declared.Refusal.TheVariants as no
-use Rattle.records.specs.declared.Done.{Done}
-use Rattle.records.specs.declared.Done.TheVariants as done
-use Rattle.records.specs.declared.Got.{Got}
 use Rattle.records.specs.Layout.{image_of}
-use Rattle.records.specs.Numbers.{refusal_number, done_number, got_number}
+use Rattle.records.specs.Numbers.{refusal_number, answer_number}
 use Rattle.full_check.specs.Check.{check_of}
 use Rattle.lists.specs.Entries.{Rising, find}
 use Rattle.lists.specs.Answers.{got_from}
@@ -33,23 +31,23 @@ found_output none before = replicate 16 0 ++ drop 16 before
 found_output (some v) before = value_bytes v ++ drop 16 before
 
 -- only `Yes` has the number 0
-yes_only : (d : Done) → 0 ≡ done_number d → d ≡ done.Yes
-unfolding done_number refusal_number
-yes_only done.Yes e = refl
-yes_only (done.Refused no.Shape) e = absurd (omega arith)
-yes_only (done.Refused no.Damaged) e = absurd (omega arith)
-yes_only (done.Refused no.Full) e = absurd (omega arith)
-yes_only (done.Refused no.Absent) e = absurd (omega arith)
-yes_only (done.Refused no.NotBlank) e = absurd (omega arith)
-yes_only (done.Refused no.Cursor) e = absurd (omega arith)
+yes_only : (d : Result Unit Refusal) → 0 ≡ answer_number d → d ≡ Ok tt
+unfolding answer_number refusal_number
+yes_only (Ok tt) e = refl
+yes_only (Err no.Shape) e = absurd (omega arith)
+yes_only (Err no.Damaged) e = absurd (omega arith)
+yes_only (Err no.Full) e = absurd (omega arith)
+yes_only (Err no.Absent) e = absurd (omega arith)
+yes_only (Err no.NotBlank) e = absurd (omega arith)
+yes_only (Err no.Cursor) e = absurd (omega arith)
 
-found_number_lem : (o : Option Value) → got_number (got_from o) ≡ found_number o
-unfolding got_number refusal_number
+found_number_lem : (o : Option Value) → answer_number (got_from o) ≡ found_number o
+unfolding answer_number refusal_number
 found_number_lem none = refl
 found_number_lem (some v) = refl
 
 found_output_lem : (o : Option Value) (before : List ℕ) → output_after (got_from o) before ≡ found_output o before
-unfolding got_number refusal_number
+unfolding answer_number refusal_number
 found_output_lem none before = (output (got_from none) before).zeros (λ e. omega arith) (λ e. omega arith)
 found_output_lem (some v) before = (output (got_from (some v)) before).value v refl
 
@@ -65,7 +63,7 @@ after_the_check m n img scratch scratch' small c =
       ascends a,
       λ key before room number after x.
           let got : lookup_of m n (image_of img) key before ≡ got_from (find key (listed a)) = long_enough m n (image_of img) key before room ∙ get_agrees a key in
-          (x.answer ∙ ap got_number got ∙ found_number_lem (find key (listed a)), x.output ∙ ap (λ (g : Got). output_after g before) got ∙ found_output_lem (find key (listed a)) before),
+          (x.answer ∙ ap answer_number got ∙ found_number_lem (find key (listed a)), x.output ∙ ap (λ (g : Result Value Refusal). output_after g before) got ∙ found_output_lem (find key (listed a)) before),
     )
 
 -- 0 or 4, and nothing else

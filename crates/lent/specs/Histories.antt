@@ -1,14 +1,13 @@
 -- Histories of the code's own calls, over the bytes of the buffer that they are lent: in any sequence of runs, each as the contract of its function says, the answers are those of the list's history, and
 -- the last buffer holds what the list's history leaves. `Ran` is what the `ensures` lines of the calls say; crate `lent_calls` proves that of each of them.
-use Rattle.std.specs.Prelude.{◌≡◌, refl, List, [], ◌∷◌, map, ℕ, ◌+◌, ◌*◌, ◌^◌, ◌≤◌, ◌<◌, length, get_or}
+use Rattle.std.specs.Prelude.{◌≡◌, refl, List, [], ◌∷◌, map, ℕ, ◌+◌, ◌*◌, ◌^◌, ◌≤◌, ◌<◌, length, get_or, Ok}
 use Rattle.std.proofs.Common.{sym, ap, subst, ◌∙◌, arith}
 use Rattle.std.proofs.Math.Decide.{dec_le}
 use Rattle.words.specs.Words.{words, words_length, words_at, words_past, Bytes}
 use Rattle.keys.specs.declared.Key.{Key}
 use Rattle.records.specs.declared.Value.{Value}
-use Rattle.records.specs.declared.Done.TheVariants as done
 use Rattle.records.specs.Layout.{image_of}
-use Rattle.records.specs.Numbers.{done_number, got_number, place_number}
+use Rattle.records.specs.Numbers.{answer_number}
 use Rattle.inspection.specs.Room.{Shaped, whole_words}
 use Rattle.inspection.specs.Outcome.{Leaves}
 use Rattle.lookup.specs.Start.{start_of, start_image, length_of, capacity_reply}
@@ -88,16 +87,16 @@ call_of (check scratch) = ask (machine.check (words scratch))
 -- byte; a buffer that is lent for reading stays as it is.
 abbrev pub Ran : ℕ → ℕ → LentCall → List ℕ → Answer → List ℕ → Type 0
 Ran m n start before a after =
-    (a ≡ done_is (start_of m n (image_of before))) × Leaves before after (done_number (start_of m n (image_of before))) (start_image m n (image_of before))
+    (a ≡ done_is (start_of m n (image_of before))) × Leaves before after (answer_number (start_of m n (image_of before))) (start_image m n (image_of before))
 Ran m n (insert key v) before a after =
     (a ≡ place_is (insert_of m n (image_of before) (key_in key)))
-    × Leaves before after (place_number (insert_of m n (image_of before) (key_in key))) (insert_image m n (image_of before) (key_in key) (value_in v))
+    × Leaves before after (answer_number (insert_of m n (image_of before) (key_in key))) (insert_image m n (image_of before) (key_in key) (value_in v))
 Ran m n (remove key) before a after =
     (a ≡ got_is (remove_of m n (image_of before) (key_in key)))
-    × Leaves before after (got_number (remove_of m n (image_of before) (key_in key))) (removed_image m n (image_of before) (key_in key))
+    × Leaves before after (answer_number (remove_of m n (image_of before) (key_in key))) (removed_image m n (image_of before) (key_in key))
 Ran m n (write key v) before a after =
     (a ≡ done_is (write_of m n (image_of before) (key_in key)))
-    × Leaves before after (done_number (write_of m n (image_of before) (key_in key))) (write_image m n (image_of before) (key_in key) (value_in v))
+    × Leaves before after (answer_number (write_of m n (image_of before) (key_in key))) (write_image m n (image_of before) (key_in key) (value_in v))
 Ran m n (get key) before a after = (a ≡ got_is (get_of m n (image_of before) (key_in key))) × (after ≡ before)
 Ran m n (contains key) before a after = (a ≡ done_is (contains_of m n (image_of before) (key_in key))) × (after ≡ before)
 Ran m n (address key) before a after = (a ≡ place_is (addr_of m n (image_of before) (key_in key))) × (after ≡ before)
@@ -219,7 +218,7 @@ blank_bytes m n l b long zeros = rw (whole_words b (omega arith)) (shape, word)
         go (no w) = words_past b k (omega arith)
 
 -- a buffer of bytes that the full check accepts holds an ascending list
-pub checked_bytes : (m n : ℕ) (b scratch : List ℕ) → Bytes b → check_of m n (image_of b) (words scratch) ≡ done.Yes → (es : Entries) × Rising es × Is m n (image_of b) (holding es)
+pub checked_bytes : (m n : ℕ) (b scratch : List ℕ) → Bytes b → check_of m n (image_of b) (words scratch) ≡ Ok tt → (es : Entries) × Rising es × Is m n (image_of b) (holding es)
 checked_bytes m n b scratch small e = let a = check_sound m n (image_of b) (words scratch) (lent_small b small) e in (listed a, ascends a, (a, refl))
 
 -- ---- the theorem
@@ -238,7 +237,7 @@ pub from_blank_bytes : (m n : ℕ) → Limits m n → (b : List ℕ) → length 
 from_blank_bytes m n l b long zeros = after_any_lent_history m n b blank (blank_bytes m n l b long zeros)
 
 -- From any buffer that the full check accepts: the history of one ascending list.
-pub from_checked_bytes : (m n : ℕ) (b scratch : List ℕ) → Bytes b → check_of m n (image_of b) (words scratch) ≡ done.Yes
+pub from_checked_bytes : (m n : ℕ) (b scratch : List ℕ) → Bytes b → check_of m n (image_of b) (words scratch) ≡ Ok tt
     → (es : Entries) × Rising es
     × ((run : List Run) → Runs m n b run
     → (map indexless (answers_in run) ≡ state_answers m (calls_of run) (holding es)) × Ends m n (image_of (last_buffer b run)) (state_after m (calls_of run) (holding es)))

@@ -1,11 +1,12 @@
 -- The holding form gives the list: a listing that holds its image, made since the last insert or remove, gives at each step what the list has left at that end.
-use Rattle.std.specs.Prelude.{◌≡◌, refl, List, [], ◌∷◌, map, Bool, true, false, ℕ}
+use Rattle.std.specs.Prelude.{◌≡◌, refl, List, [], ◌∷◌, map, Bool, true, false, ℕ, Ok, Result}
 use Rattle.std.proofs.Common.{sym, subst}
 use Rattle.std.proofs.Math.Option.{Option, none, some}
 use Rattle.std.specs.Borrow.{Bor}
+use Rattle.records.specs.declared.Value.{Value}
+use Rattle.records.specs.declared.Refusal.{Refusal}
+use Rattle.keys.specs.declared.Key.{Key}
 use Rattle.words.specs.Words.{words, Bytes}
-use Rattle.records.specs.declared.Done.TheVariants as done
-use Rattle.records.specs.declared.Entry.{Entry}
 use Rattle.records.specs.Layout.{image_of}
 use Rattle.full_check.specs.Check.{check_of}
 use Rattle.lists.specs.Entries.{Rising, list_end, rest_of}
@@ -26,7 +27,7 @@ use Rattle.holding.specs.declared.Listing.{Listing}
 use Rattle.holding.specs.Held.{begun, held_step, placed, moved_on, both_of}
 
 -- what `next` and `next_back` answer one after the other, one for each side asked; true is the back
-abbrev pub held_steps : List Bool → Listing → List Entry
+abbrev pub held_steps : List Bool → Listing → List (Result (Key × Value) Refusal)
 held_steps [] l = []
 held_steps (back ∷ sides) l = (held_step back l).entry ∷ held_steps sides (moved_on back l)
 
@@ -55,7 +56,7 @@ module _ (image : Bor (List ℕ)) (m n : ℕ) (a : Accepted m n (image_of image.
       λ ι. record { first = first ι; last = last ι }
 
 -- On a buffer that the full check accepts: one ascending list, whose entries every order of steps gives from both its ends.
-pub holding_checked : (image : Bor (List ℕ)) (m n : ℕ) (scratch : List ℕ) → Bytes image.now → check_of m n (image_of image.now) (words scratch) ≡ done.Yes
+pub holding_checked : (image : Bor (List ℕ)) (m n : ℕ) (scratch : List ℕ) → Bytes image.now → check_of m n (image_of image.now) (words scratch) ≡ Ok tt
     → (es : Entries) × Rising es × ((sides : List Bool) → held_steps sides (begun image m n) ≡ map entry_from (run taken es sides))
 holding_checked image m n scratch small e =
     let a = check_sound m n (image_of image.now) (words scratch) (lent_small image.now small) e in (listed a, ascends a, holding_lists image m n a)

@@ -1,10 +1,9 @@
 -- Histories of the code's own calls with listings among them, over the bytes of the buffer and the positions of the listings: any number of them, interleaved with the calls and with each other. What one
 -- move's contract says is `MoveRan`; crate `lent_calls` proves that of `list`, `next` and `next_back`.
-use Rattle.std.specs.Prelude.{◌≡◌, refl, List, [], ◌∷◌, Bool, ℕ, ◌+◌, ◌*◌, length, get_or}
+use Rattle.std.specs.Prelude.{◌≡◌, refl, List, [], ◌∷◌, Bool, ℕ, ◌+◌, ◌*◌, length, get_or, Ok}
 use Rattle.std.proofs.Common.{sym, ap, subst, ◌∙◌}
 use Rattle.std.proofs.Math.Option.{none}
 use Rattle.words.specs.Words.{words, Bytes}
-use Rattle.records.specs.declared.Done.TheVariants as done
 use Rattle.records.specs.Layout.{image_of}
 use Rattle.listing.specs.declared.Made.{Made}
 use Rattle.listing.specs.declared.Position.{Position}
@@ -176,7 +175,7 @@ listings_from_blank_bytes m n l b long zeros ps run h =
     let t = lent_listings_too m n b blank (blank_bytes m n l b long zeros) ps run h in (t.0, is_ends m n (image_of (buffer_then b run)) (state_then m (moves_of run) blank) t.1)
 
 -- From any buffer that the full check accepts: the history of one ascending list.
-pub listings_from_checked_bytes : (m n : ℕ) (b scratch : List ℕ) → Bytes b → check_of m n (image_of b) (words scratch) ≡ done.Yes
+pub listings_from_checked_bytes : (m n : ℕ) (b scratch : List ℕ) → Bytes b → check_of m n (image_of b) (words scratch) ≡ Ok tt
     → (es : Entries) × Rising es
     × ((ps : ℕ → Position) (run : List MoveRun) → MoveRuns m n b ps run
     → MeetAll (move_answers_in run) (moves_told m (moves_of run) (holding es) (λ k. none)) × Ends m n (image_of (buffer_then b run)) (state_then m (moves_of run) (holding es)))

@@ -12,75 +12,91 @@ ghost use Rattle.board.specs.Promises.{Looked, Checked};
 
 use keys::Key;
 use listing::{Made, Position, Stepped};
-use records::{Count, Done, Entry, Got, Place, Value};
+use records::{NodeIndex, Refusal, Value};
 
-pub fn start(img: &mut [u8], m: u32, n: u32) -> Done
+pub fn start(img: &mut [u8], m: u32, n: u32) -> Result<(), Refusal>
     ensures { Ran m n lent.start img.old (done_is result) img.new }
 {
     lookup::start::start(img, m, n)
 }
 
-pub fn insert(img: &mut [u8], m: u32, n: u32, high: u64, low: u64, first: u64, second: u64) -> Place
+pub fn insert(
+    img: &mut [u8],
+    m: u32,
+    n: u32,
+    high: u64,
+    low: u64,
+    first: u64,
+    second: u64,
+) -> Result<NodeIndex, Refusal>
     ensures { RanWith m n lent.insert high low first second img.old (place_is result) img.new }
 {
     insert::insert(img, m, n, Key { high, low }, Value { first, second })
 }
 
-pub fn remove(img: &mut [u8], m: u32, n: u32, high: u64, low: u64) -> Got
+pub fn remove(img: &mut [u8], m: u32, n: u32, high: u64, low: u64) -> Result<Value, Refusal>
     ensures { RanBy m n lent.remove high low img.old (got_is result) img.new }
 {
     remove::remove(img, m, n, Key { high, low })
 }
 
-pub fn set(img: &mut [u8], m: u32, n: u32, high: u64, low: u64, first: u64, second: u64) -> Done
+pub fn set(
+    img: &mut [u8],
+    m: u32,
+    n: u32,
+    high: u64,
+    low: u64,
+    first: u64,
+    second: u64,
+) -> Result<(), Refusal>
     ensures { RanWith m n lent.write high low first second img.old (done_is result) img.new }
 {
     lookup::get::set(img, m, n, Key { high, low }, Value { first, second })
 }
 
-pub fn get(img: &[u8], m: u32, n: u32, high: u64, low: u64) -> Got
+pub fn get(img: &[u8], m: u32, n: u32, high: u64, low: u64) -> Result<Value, Refusal>
     ensures { RanBy m n lent.get high low img.now (got_is result) img.now }
 {
     lookup::get::get(img, m, n, Key { high, low })
 }
 
-pub fn contains(img: &[u8], m: u32, n: u32, high: u64, low: u64) -> Done
+pub fn contains(img: &[u8], m: u32, n: u32, high: u64, low: u64) -> Result<(), Refusal>
     ensures { RanBy m n lent.contains high low img.now (done_is result) img.now }
 {
     lookup::get::contains(img, m, n, Key { high, low })
 }
 
-pub fn get_addr(img: &[u8], m: u32, n: u32, high: u64, low: u64) -> Place
+pub fn get_addr(img: &[u8], m: u32, n: u32, high: u64, low: u64) -> Result<NodeIndex, Refusal>
     ensures { RanBy m n lent.address high low img.now (place_is result) img.now }
 {
     lookup::get::get_addr(img, m, n, Key { high, low })
 }
 
-pub fn len(img: &[u8], m: u32, n: u32) -> Count
+pub fn len(img: &[u8], m: u32, n: u32) -> Result<u64, Refusal>
     ensures { Ran m n lent.len img.now (count_from result) img.now }
 {
     lookup::start::len(img, m, n)
 }
 
-pub fn capacity(img: &[u8], m: u32, n: u32) -> Count
+pub fn capacity(img: &[u8], m: u32, n: u32) -> Result<u64, Refusal>
     ensures { Ran m n lent.capacity img.now (count_from result) img.now }
 {
     lookup::start::capacity(img, m, n)
 }
 
-pub fn get_min(img: &[u8], m: u32, n: u32) -> Entry
+pub fn get_min(img: &[u8], m: u32, n: u32) -> Result<(Key, Value), Refusal>
     ensures { Ran m n lent.smallest img.now (entry_is result) img.now }
 {
     lookup::ends::get_min(img, m, n)
 }
 
-pub fn get_max(img: &[u8], m: u32, n: u32) -> Entry
+pub fn get_max(img: &[u8], m: u32, n: u32) -> Result<(Key, Value), Refusal>
     ensures { Ran m n lent.largest img.now (entry_is result) img.now }
 {
     lookup::ends::get_max(img, m, n)
 }
 
-pub fn check(img: &[u8], m: u32, n: u32, scratch: &mut [u8]) -> Done
+pub fn check(img: &[u8], m: u32, n: u32, scratch: &mut [u8]) -> Result<(), Refusal>
     ensures { Ran m n (lent.check scratch.old) img.now (done_is result) img.now }
 {
     full_check::check(img, m, n, scratch)

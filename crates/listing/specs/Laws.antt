@@ -2,7 +2,7 @@
 -- left before.
 use Rattle.std.proofs.Math.Path.{◌≡◌, refl, sym, ap}
 use Rattle.std.proofs.Common.{◌∙◌, arith}
-use Rattle.std.specs.Prelude.{List, Bool, ◌&&◌, not, length, set, leb}
+use Rattle.std.specs.Prelude.{List, Bool, ◌&&◌, not, length, set, leb, Ok}
 use Rattle.std.proofs.Math.Bool.{true, false, cond}
 use Rattle.std.proofs.lemmas.Bool.{false≢true}
 use Prim.Native.Nat.{ℕ, zero, suc, ◌+◌, ◌-◌, ◌≤◌, ◌<◌}
@@ -24,7 +24,6 @@ use Rattle.listing.specs.declared.Opens.{Opens}
 use Rattle.listing.specs.declared.Opens.TheVariants.{On, Spoiled}
 use Rattle.listing.specs.declared.Reached.{Reached}
 use Rattle.listing.specs.declared.Given.{Given}
-use Rattle.listing.specs.declared.Admitted.TheVariants.{Go}
 use Rattle.listing.specs.Position.{most_places}
 use Rattle.listing.specs.Step.{near_of, far_of, open_turn, reached_at, open_by, open_to, top_of, pop_to, opened_moved}
 use Rattle.listing.specs.Ends.{given_of, given, given_moved, end_step, admit_of, admit_moved, admit_pops}
@@ -138,16 +137,16 @@ kept_on false x y e = absurd (false≢true (sym e))
 
 module _ (m n : ℕ) (bytes : List ℕ) (ended : Bool) (held : ℕ) (h : Header) where
   -- the header's nodes lie inside
-  pub admit_room : (count : ℕ) → admit_of m n (image_of bytes) ended count held ≡ Go h → Room h (length (words bytes))
+  pub admit_room : (count : ℕ) → admit_of m n (image_of bytes) ended count held ≡ Ok h → Room h (length (words bytes))
   admit_room count e =
       let k = admit_pops m n (image_of bytes) ended count held h e in rw (sym (image_words m n bytes k.shape)) (room m n (image_of bytes) h k.opened)
 
   -- there is a node to pop, and a place for it
-  pub admit_count : (count : ℕ) → admit_of m n (image_of bytes) ended count held ≡ Go h → (1 ≤ count) × (count ≤ 129)
+  pub admit_count : (count : ℕ) → admit_of m n (image_of bytes) ended count held ≡ Ok h → (1 ≤ count) × (count ≤ 129)
   admit_count count e = let k = admit_pops m n (image_of bytes) ended count held h e in (k.some, k.most)
 
   -- the step is what popping comes to
-  pub admit_moved_lem : (back : Bool) (s : Stack) (other : ValueIndex) → admit_of m n (image_of bytes) ended s.count held ≡ Go h
+  pub admit_moved_lem : (back : Bool) (s : Stack) (other : ValueIndex) → admit_of m n (image_of bytes) ended s.count held ≡ Ok h
       → opened_moved n (words bytes) s other (pop_to back h (words bytes) s) ≡ end_step back m n (image_of bytes) ended s held other
   unfolding end_step
   admit_moved_lem back s other e =

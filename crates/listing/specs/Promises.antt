@@ -2,24 +2,23 @@
 -- (A listing is lent the image to read, and cannot change a word of it.)
 use Rattle.std.proofs.Math.Path.{◌≡◌, refl, ap}
 use Rattle.std.proofs.Common.{sym, ◌∙◌, inl, inr, ⊎_elim, true≢false, arith}
-use Rattle.std.specs.Prelude.{List, ◌↔◌, ◌⊎◌, Bool, cond, ◌&&◌, ◌||◌, ℕ, length, eqb, leb}
+use Rattle.std.specs.Prelude.{List, ◌↔◌, ◌⊎◌, Bool, cond, ◌&&◌, ◌||◌, ℕ, length, eqb, leb, Err, None, Ok, Result, Some}
 use Rattle.std.proofs.Math.Logic.{◌≢◌}
 use Rattle.std.proofs.Math.Bool.{true, false}
+use Rattle.records.specs.declared.Value.{Value}
+use Rattle.records.specs.declared.Refusal.{Refusal}
+use Rattle.keys.specs.declared.Key.{Key}
+use Rattle.records.specs.declared.Header.{Header}
 use Rattle.records.specs.declared.ValueIndex.{ValueIndex}
 use Rattle.records.specs.declared.Refusal.TheVariants as no
-use Rattle.records.specs.declared.Entry.{Entry}
-use Rattle.records.specs.declared.Entry.TheVariants as entry
-use Rattle.inspection.specs.declared.Opened.{Opened}
-use Rattle.inspection.specs.declared.Opened.TheVariants.{Good, Shut}
 use Rattle.records.specs.declared.Node.{Node}
 use Rattle.records.specs.Records.{header_of, value_record_of}
 use Rattle.inspection.specs.declared.Visited.{Visited}
 use Rattle.inspection.specs.declared.Visited.TheVariants as visited
-use Rattle.inspection.specs.declared.Live.TheVariants as live
 use Rattle.inspection.specs.Visit.{live_of}
 use Rattle.inspection.specs.Tests.{shape_ok, top_ok, live_value}
 use Rattle.inspection.specs.Opening.{open_of}
-use Rattle.records.specs.Numbers.{refusal_number, done_number, entry_number, entry_key, entry_value, zero_key, zero_value}
+use Rattle.records.specs.Numbers.{refusal_number, answer_number, entry_key, entry_value, zero_key, zero_value}
 use Rattle.inspection.specs.Room.{open_header}
 use Rattle.inspection.specs.Answers.{OpensAs, misshapen, unsound, sound, opens}
 use Rattle.listing.specs.declared.Stack.{Stack}
@@ -33,10 +32,10 @@ use Rattle.listing.specs.Step.{pop_to, lost, live_moved, leaf_moved, came_moved,
 -- ---- making a position: 1 and 2 are shape and header, and nothing else refuses
 
 pub made_numbers : (m n : ℕ) (ws : List ℕ)
-    → ((done_number (made_of m n ws).answer ≡ 1) ↔ (shape_ok m n (length ws) ≡ false))
-    × ((done_number (made_of m n ws).answer ≡ 2) ↔ ((shape_ok m n (length ws) ≡ true) × (top_ok m n ws ≡ false)))
-    × ((done_number (made_of m n ws).answer ≡ 0) ↔ ((shape_ok m n (length ws) ≡ true) × (top_ok m n ws ≡ true)))
-unfolding made_of opened_made done_number refusal_number
+    → ((answer_number (made_of m n ws).answer ≡ 1) ↔ (shape_ok m n (length ws) ≡ false))
+    × ((answer_number (made_of m n ws).answer ≡ 2) ↔ ((shape_ok m n (length ws) ≡ true) × (top_ok m n ws ≡ false)))
+    × ((answer_number (made_of m n ws).answer ≡ 0) ↔ ((shape_ok m n (length ws) ≡ true) × (top_ok m n ws ≡ true)))
+unfolding made_of opened_made answer_number refusal_number
 made_numbers m n ws = go (opens m n ws)
   where
     Goal : Bool → Bool → ℕ → Type 0
@@ -59,19 +58,19 @@ made_numbers m n ws = go (opens m n ws)
       ((λ e. (refl, refl)), λ e. refl),
     )
 
-    go : OpensAs m n ws → Goal (shape_ok m n (length ws)) (top_ok m n ws) (done_number (opened_made (open_of m n ws)).answer)
+    go : OpensAs m n ws → Goal (shape_ok m n (length ws)) (top_ok m n ws) (answer_number (opened_made (open_of m n ws)).answer)
     go (misshapen e o) = rw (e, o) (by false (top_ok m n ws))
     go (unsound e h o) = rw (e, h, o) (by true false)
     go (sound h e k o) = rw (e, k, o) (by true true)
 
 -- a refused making gives a position of zeros, not ended
-pub made_zeros : (m n : ℕ) (ws : List ℕ) → done_number (made_of m n ws).answer ≢ 0 → (made_of m n ws).position ≡ both_ends empty_stack
-unfolding made_of opened_made done_number
+pub made_zeros : (m n : ℕ) (ws : List ℕ) → answer_number (made_of m n ws).answer ≢ 0 → (made_of m n ws).position ≡ both_ends empty_stack
+unfolding made_of opened_made answer_number
 made_zeros m n ws e = go (open_of m n ws) e
   where
-    go : (o : Opened) → done_number (opened_made o).answer ≢ 0 → (opened_made o).position ≡ both_ends empty_stack
-    go (Good h) f = absurd (f refl)
-    go (Shut r) f = refl
+    go : (o : Result Header Refusal) → answer_number (opened_made o).answer ≢ 0 → (opened_made o).position ≡ both_ends empty_stack
+    go (Ok h) f = absurd (f refl)
+    go (Err r) f = refl
 
 -- ---- a step: seven tests, one after the other, decide its number
 
@@ -176,28 +175,28 @@ lives_in n ws leaf visited.Damaged = false
 
 module _ (n : ℕ) (ws : List ℕ) (s : Stack) (far : ValueIndex) (o : Reached) where
   abbrev by_record : Node → Bool → Moved
-  by_record x b = live_moved s o x (cond b (live.Holds (value_record_of n ws x.value.0).value) live.Not)
+  by_record x b = live_moved s o x (cond b (Some (value_record_of n ws x.value.0).value) None)
 
-  leaf_number : (x : Node) (c d : Bool) (y : Moved) → entry_number y.entry ≡ 4 → entry_number (cond c y (by_record x d)).entry ≡ cond c 4 (cond d 0 2)
-  unfolding live_moved entry_number refusal_number
+  leaf_number : (x : Node) (c d : Bool) (y : Moved) → answer_number y.entry ≡ 4 → answer_number (cond c y (by_record x d)).entry ≡ cond c 4 (cond d 0 2)
+  unfolding live_moved answer_number refusal_number
   leaf_number x true d y e = e
   leaf_number x false true y e = refl
   leaf_number x false false y e = refl
 
-  came_number : (v : Visited) → entry_number (came_moved n ws s far o v).entry ≡ cond (leaf_came v) (cond (names_in far.0 v) 4 (cond (lives_in n ws o.leaf.0 v) 0 2)) 2
-  unfolding leaf_moved live_of entry_number refusal_number
+  came_number : (v : Visited) → answer_number (came_moved n ws s far o v).entry ≡ cond (leaf_came v) (cond (names_in far.0 v) 4 (cond (lives_in n ws o.leaf.0 v) 0 2)) 2
+  unfolding leaf_moved live_of answer_number refusal_number
   came_number (visited.Leaf x) = leaf_number x (eqb x.value.0 far.0) (live_value n ws o.leaf.0 x.value.0) _ refl
   came_number (visited.Inner x) = refl
   came_number visited.Damaged = refl
 
-  leaf_lost : (x : Node) (c d : Bool) (y : Moved) → entry_number y.entry ≡ 4 → entry_number (cond c y (by_record x d)).entry ≡ 2 → cond c y (by_record x d) ≡ lost s
-  unfolding live_moved entry_number refusal_number
+  leaf_lost : (x : Node) (c d : Bool) (y : Moved) → answer_number y.entry ≡ 4 → answer_number (cond c y (by_record x d)).entry ≡ 2 → cond c y (by_record x d) ≡ lost s
+  unfolding live_moved answer_number refusal_number
   leaf_lost x true d y e q = absurd (omega arith)
   leaf_lost x false true y e q = absurd (omega arith)
   leaf_lost x false false y e q = refl
 
-  came_lost : (v : Visited) → entry_number (came_moved n ws s far o v).entry ≡ 2 → came_moved n ws s far o v ≡ lost s
-  unfolding leaf_moved live_of entry_number refusal_number
+  came_lost : (v : Visited) → answer_number (came_moved n ws s far o v).entry ≡ 2 → came_moved n ws s far o v ≡ lost s
+  unfolding leaf_moved live_of answer_number refusal_number
   came_lost (visited.Leaf x) e = leaf_lost x (eqb x.value.0 far.0) (live_value n ws o.leaf.0 x.value.0) _ refl e
   came_lost (visited.Inner x) e = refl
   came_lost visited.Damaged e = refl
@@ -226,45 +225,45 @@ module _ (back : Bool) (m n : ℕ) (ws : List ℕ) (p : Position) where
   abbrev pub lives : Bool
   lives = lives_in n ws reached.leaf.0 reached.came
 
-  pick : (a : Bool) (x y : Moved) (k : ℕ) → entry_number x.entry ≡ 4 → entry_number y.entry ≡ k → entry_number (cond a x y).entry ≡ cond a 4 k
+  pick : (a : Bool) (x y : Moved) (k : ℕ) → answer_number x.entry ≡ 4 → answer_number y.entry ≡ k → answer_number (cond a x y).entry ≡ cond a 4 k
   pick true x y k e f = e
   pick false x y k e f = f
 
-  moved_number : entry_number (moved_of back n (header_of n ws) ws p.ended (near_end back p) (far_end back p).last).entry
+  moved_number : answer_number (moved_of back n (header_of n ws) ws p.ended (near_end back p) (far_end back p).last).entry
       ≡ cond ends 4 (cond good (cond meets 4 (cond lives 0 2)) 2)
-  unfolding moved_of opened_moved entry_number refusal_number
+  unfolding moved_of opened_moved answer_number refusal_number
   moved_number = pick ends _ _ _ refl (came_number n ws (near_end back p) (far_end back p).last reached reached.came)
 
-  turn : (f : Bool) (x y : Stepped) (k : ℕ) → entry_number x.entry ≡ k → entry_number y.entry ≡ 6 → entry_number (cond f x y).entry ≡ cond f k 6
+  turn : (f : Bool) (x y : Stepped) (k : ℕ) → answer_number x.entry ≡ k → answer_number y.entry ≡ 6 → answer_number (cond f x y).entry ≡ cond f k 6
   turn true x y k e g = e
   turn false x y k e g = g
 
-  step_number : entry_number (step_of back m n ws p).entry ≡ numbered (shape_ok m n (length ws)) fits (top_ok m n ws) ends good meets lives
-  unfolding step_of opened_step entry_number refusal_number
+  step_number : answer_number (step_of back m n ws p).entry ≡ numbered (shape_ok m n (length ws)) fits (top_ok m n ws) ends good meets lives
+  unfolding step_of opened_step answer_number refusal_number
   step_number = go (opens m n ws)
     where
       go : OpensAs m n ws
-          → entry_number (cond (shape_ok m n (length ws)) (cond fits (opened_step back n ws p (open_of m n ws)) (refused_step p no.Cursor)) (refused_step p no.Shape)).entry
+          → answer_number (cond (shape_ok m n (length ws)) (cond fits (opened_step back n ws p (open_of m n ws)) (refused_step p no.Cursor)) (refused_step p no.Shape)).entry
           ≡ numbered (shape_ok m n (length ws)) fits (top_ok m n ws) ends good meets lives
       go (misshapen e o) = rw e
       go (unsound e h o) = rw (e, h, o) (turn fits (refused_step p no.Damaged) (refused_step p no.Cursor) 2 refl refl)
       go (sound h e k o) =
-          let same : open_of m n ws ≡ Good (header_of n ws) = o ∙ ap Good (sym (open_header m n ws h o)) in
-          rw (e, k, same) (turn fits (opened_step back n ws p (Good (header_of n ws))) (refused_step p no.Cursor) _ moved_number refl)
+          let same : open_of m n ws ≡ Ok (header_of n ws) = o ∙ ap Ok (sym (open_header m n ws h o)) in
+          rw (e, k, same) (turn fits (opened_step back n ws p (Ok (header_of n ws))) (refused_step p no.Cursor) _ moved_number refl)
 
   -- the numbers of a step, at either end
-  pub step_numbers : Numbers (shape_ok m n (length ws)) fits (top_ok m n ws) ends good meets lives (entry_number (step_of back m n ws p).entry)
+  pub step_numbers : Numbers (shape_ok m n (length ws)) fits (top_ok m n ws) ends good meets lives (answer_number (step_of back m n ws p).entry)
   step_numbers = rw step_number (decided (shape_ok m n (length ws)) fits (top_ok m n ws) ends good meets lives)
 
   -- ---- what a refusal leaves
 
-  pick_kept : (a : Bool) (x y : Moved) → entry_number x.entry ≡ 4 → (a ≡ false → entry_number y.entry ≡ 2 → with_near back p y ≡ p)
-      → entry_number (cond a x y).entry ≡ 2 → with_near back p (cond a x y) ≡ p
+  pick_kept : (a : Bool) (x y : Moved) → answer_number x.entry ≡ 4 → (a ≡ false → answer_number y.entry ≡ 2 → with_near back p y ≡ p)
+      → answer_number (cond a x y).entry ≡ 2 → with_near back p (cond a x y) ≡ p
   pick_kept true x y e f q = absurd (omega arith)
   pick_kept false x y e f q = f refl q
 
   -- an end that stays
-  stays : (b t : Bool) (given : Entry) → p.ended ≡ t → with_near b p (record { near = near_end b p; ended = t; entry = given }) ≡ p
+  stays : (b t : Bool) (given : Result (Key × Value) Refusal) → p.ended ≡ t → with_near b p (record { near = near_end b p; ended = t; entry = given }) ≡ p
   stays true t given e = λ ι. record { front = p.front; back = p.back; ended = sym e ι }
   stays false t given e = λ ι. record { front = p.front; back = p.back; ended = sym e ι }
 
@@ -272,17 +271,17 @@ module _ (back : Bool) (m n : ℕ) (ws : List ℕ) (p : Position) where
   not_ended true b e = e
   not_ended false b e = refl
 
-  moved_kept : entry_number (moved_of back n (header_of n ws) ws p.ended (near_end back p) (far_end back p).last).entry ≡ 2
+  moved_kept : answer_number (moved_of back n (header_of n ws) ws p.ended (near_end back p) (far_end back p).last).entry ≡ 2
       → with_near back p (moved_of back n (header_of n ws) ws p.ended (near_end back p) (far_end back p).last) ≡ p
-  unfolding moved_of opened_moved entry_number refusal_number
+  unfolding moved_of opened_moved answer_number refusal_number
   moved_kept =
       pick_kept ends _ _ refl
       (λ e q. ap (with_near back p) (came_lost n ws (near_end back p) (far_end back p).last reached reached.came q)
-      ∙ stays back false (entry.Refused no.Damaged) (not_ended p.ended (eqb (near_end back p).count 0) e))
+      ∙ stays back false (Err no.Damaged) (not_ended p.ended (eqb (near_end back p).count 0) e))
 
   -- a refusal other than 4 leaves every word of the position
-  pub step_kept : entry_number (step_of back m n ws p).entry ≢ 0 → entry_number (step_of back m n ws p).entry ≢ 4 → (step_of back m n ws p).position ≡ p
-  unfolding step_of opened_step entry_number refusal_number
+  pub step_kept : answer_number (step_of back m n ws p).entry ≢ 0 → answer_number (step_of back m n ws p).entry ≢ 4 → (step_of back m n ws p).position ≡ p
+  unfolding step_of opened_step answer_number refusal_number
   step_kept = go (opens m n ws)
     where
       few : (a b c d : Bool) → ◌≢◌ {A = ℕ} (cond a 4 (cond b (cond c 4 (cond d 0 2)) 2)) 0 → ◌≢◌ {A = ℕ} (cond a 4 (cond b (cond c 4 (cond d 0 2)) 2)) 4 → ◌≡◌ {A = ℕ} (cond a 4 (cond b (cond c 4 (cond d 0 2)) 2)) 2
@@ -292,34 +291,34 @@ module _ (back : Bool) (m n : ℕ) (ws : List ℕ) (p : Position) where
       few false true false false f g = refl
       few false false c d f g = refl
 
-      opened : (f : Bool) (x : Stepped) → (entry_number x.entry ≢ 0 → entry_number x.entry ≢ 4 → x.position ≡ p)
-          → entry_number (cond f x (refused_step p no.Cursor)).entry ≢ 0 → entry_number (cond f x (refused_step p no.Cursor)).entry ≢ 4 → (cond f x (refused_step p no.Cursor)).position ≡ p
+      opened : (f : Bool) (x : Stepped) → (answer_number x.entry ≢ 0 → answer_number x.entry ≢ 4 → x.position ≡ p)
+          → answer_number (cond f x (refused_step p no.Cursor)).entry ≢ 0 → answer_number (cond f x (refused_step p no.Cursor)).entry ≢ 4 → (cond f x (refused_step p no.Cursor)).position ≡ p
       opened true x h d e = h d e
       opened false x h d e = refl
 
-      unmoved : entry_number (opened_step back n ws p (Good (header_of n ws))).entry ≢ 0 → entry_number (opened_step back n ws p (Good (header_of n ws))).entry ≢ 4
-          → (opened_step back n ws p (Good (header_of n ws))).position ≡ p
+      unmoved : answer_number (opened_step back n ws p (Ok (header_of n ws))).entry ≢ 0 → answer_number (opened_step back n ws p (Ok (header_of n ws))).entry ≢ 4
+          → (opened_step back n ws p (Ok (header_of n ws))).position ≡ p
       unmoved d e =
           moved_kept (moved_number ∙ few ends good meets lives (λ q. d (moved_number ∙ q)) (λ q. e (moved_number ∙ q)))
 
       go : OpensAs m n ws
-          → entry_number (cond (shape_ok m n (length ws)) (cond fits (opened_step back n ws p (open_of m n ws)) (refused_step p no.Cursor)) (refused_step p no.Shape)).entry ≢ 0
-          → entry_number (cond (shape_ok m n (length ws)) (cond fits (opened_step back n ws p (open_of m n ws)) (refused_step p no.Cursor)) (refused_step p no.Shape)).entry ≢ 4
+          → answer_number (cond (shape_ok m n (length ws)) (cond fits (opened_step back n ws p (open_of m n ws)) (refused_step p no.Cursor)) (refused_step p no.Shape)).entry ≢ 0
+          → answer_number (cond (shape_ok m n (length ws)) (cond fits (opened_step back n ws p (open_of m n ws)) (refused_step p no.Cursor)) (refused_step p no.Shape)).entry ≢ 4
           → (cond (shape_ok m n (length ws)) (cond fits (opened_step back n ws p (open_of m n ws)) (refused_step p no.Cursor)) (refused_step p no.Shape)).position ≡ p
       go (misshapen e o) = rw e (λ f g. refl)
       go (unsound e h o) = rw (e, o) (opened fits (refused_step p no.Damaged) (λ f g. refl))
       go (sound h e k o) =
-          let same : open_of m n ws ≡ Good (header_of n ws) = o ∙ ap Good (sym (open_header m n ws h o)) in
-          rw (e, same) (opened fits (opened_step back n ws p (Good (header_of n ws))) unmoved)
+          let same : open_of m n ws ≡ Ok (header_of n ws) = o ∙ ap Ok (sym (open_header m n ws h o)) in
+          rw (e, same) (opened fits (opened_step back n ws p (Ok (header_of n ws))) unmoved)
 
   -- and its results are zeros
-  pub step_zeros : entry_number (step_of back m n ws p).entry ≢ 0 → (entry_key (step_of back m n ws p).entry ≡ zero_key) × (entry_value (step_of back m n ws p).entry ≡ zero_value)
-  unfolding entry_number entry_key entry_value
+  pub step_zeros : answer_number (step_of back m n ws p).entry ≢ 0 → (entry_key (step_of back m n ws p).entry ≡ zero_key) × (entry_value (step_of back m n ws p).entry ≡ zero_value)
+  unfolding answer_number entry_key entry_value
   step_zeros = go (step_of back m n ws p).entry
     where
-      go : (a : Entry) → entry_number a ≢ 0 → (entry_key a ≡ zero_key) × (entry_value a ≡ zero_value)
-      go (entry.Is k v) e = absurd (e refl)
-      go (entry.Refused r) e = (refl, refl)
+      go : (a : Result (Key × Value) Refusal) → answer_number a ≢ 0 → (entry_key a ≡ zero_key) × (entry_value a ≡ zero_value)
+      go (Ok (k, v)) e = absurd (e refl)
+      go (Err r) e = (refl, refl)
 
   -- no second outcome fits the contract
   pub step_once : (r q : Stepped) → r ≡ step_of back m n ws p → q ≡ step_of back m n ws p → r ≡ q

@@ -1,19 +1,15 @@
 -- A step of a listing at one of its ends: rules L3 to L7, and the Rust's `next` and `next_back`. Both ends are one definition over the side: at the front
 -- the near child is Left and at the back it is Right.
-use Rattle.std.specs.Prelude.{List, Bool, true, false, cond, ◌&&◌, ◌||◌, ℕ, zero, suc, ◌+◌, ◌-◌, length, get_or, set, eqb, leb, ltb}
+use Rattle.std.specs.Prelude.{◌≡◌, refl, List, Bool, true, false, cond, not, ◌&&◌, ◌||◌, ℕ, zero, suc, ◌+◌, ◌-◌, length, get_or, set, eqb, leb, ltb, Err, None, Ok, Option, Result, Some}
+use Rattle.records.specs.declared.Value.{Value}
 use Rattle.records.specs.declared.Header.{Header}
 use Rattle.records.specs.declared.Node.{Node}
 use Rattle.records.specs.declared.NodeIndex.{NodeIndex}
 use Rattle.records.specs.declared.ValueIndex.{ValueIndex}
-use Rattle.inspection.specs.declared.Opened.{Opened}
-use Rattle.inspection.specs.declared.Opened.TheVariants.{Good, Shut}
 use Rattle.records.specs.declared.Refusal.{Refusal}
 use Rattle.records.specs.declared.Refusal.TheVariants as no
-use Rattle.records.specs.declared.Entry.TheVariants as entry
 use Rattle.inspection.specs.declared.Visited.{Visited}
 use Rattle.inspection.specs.declared.Visited.TheVariants as visited
-use Rattle.inspection.specs.declared.Live.{Live}
-use Rattle.inspection.specs.declared.Live.TheVariants as live
 use Rattle.inspection.specs.Tests.{shape_ok, node_ok}
 use Rattle.inspection.specs.Visit.{visit_of, first_of, live_of}
 use Rattle.inspection.specs.Opening.{open_of}
@@ -33,6 +29,11 @@ near_of back x = cond back x.right x.left
 
 abbrev pub far_of : Bool → Node → NodeIndex
 far_of back x = cond back x.left x.right
+
+-- which is the child on the other side
+pub far_child : (back : Bool) (x : Node) → cond (not back) x.right x.left ≡ far_of back x
+far_child true x = refl
+far_child false x = refl
 
 -- Opening a node tests both children. Both pass through the stack, the far one first, though the near one is popped at once; a stack that would pass 129 is
 -- damage.
@@ -69,19 +70,19 @@ pop_to back h ws s = open_to 129 back h ws s.places (s.count - 1) (top_of s) (fi
 -- ---- what the leaf comes to
 
 abbrev pub lost : Stack → Moved
-lost s = record { near = s; ended = false; entry = entry.Refused no.Damaged }
+lost s = record { near = s; ended = false; entry = Err no.Damaged }
 
 -- its value record is tested, and the entry given
-unfoldable pub live_moved : Stack → Reached → Node → Live → Moved
-live_moved s o x (live.Holds v) =
-    record { near = record { places = o.places; count = o.count; last = x.value }; ended = false; entry = entry.Is x.key v }
-live_moved s o x live.Not = lost s
+unfoldable pub live_moved : Stack → Reached → Node → Option Value → Moved
+live_moved s o x (Some v) =
+    record { near = record { places = o.places; count = o.count; last = x.value }; ended = false; entry = Ok (x.key, v) }
+live_moved s o x None = lost s
 
 -- The ends meet where the leaf names the value record that the other end gave last: the mark is set, and no value is read.
 unfoldable pub leaf_moved : ℕ → List ℕ → Stack → ValueIndex → Reached → Node → Moved
 leaf_moved n ws s far o x =
     cond (eqb x.value.0 far.0)
-    (record { near = record { places = o.places; count = o.count; last = s.last }; ended = true; entry = entry.Refused no.Absent })
+    (record { near = record { places = o.places; count = o.count; last = s.last }; ended = true; entry = Err no.Absent })
     (live_moved s o x (live_of n ws o.leaf.0 x.value.0))
 
 abbrev pub came_moved : ℕ → List ℕ → Stack → ValueIndex → Reached → Visited → Moved
@@ -95,7 +96,7 @@ opened_moved n ws s far o = came_moved n ws s far o o.came
 -- an ended listing and an empty stack stay as they are
 unfoldable pub moved_of : Bool → ℕ → Header → List ℕ → Bool → Stack → ValueIndex → Moved
 moved_of back n h ws ended s far =
-    cond (ended || eqb s.count 0) (record { near = s; ended = ended; entry = entry.Refused no.Absent }) (opened_moved n ws s far (pop_to back h ws s))
+    cond (ended || eqb s.count 0) (record { near = s; ended = ended; entry = Err no.Absent }) (opened_moved n ws s far (pop_to back h ws s))
 
 -- ---- a step
 
@@ -109,15 +110,15 @@ abbrev pub with_near : Bool → Position → Moved → Position
 with_near back p m = cond back (record { front = p.front; back = m.near; ended = m.ended }) (record { front = m.near; back = p.back; ended = m.ended })
 
 abbrev pub refused_step : Position → Refusal → Stepped
-refused_step p r = record { entry = entry.Refused r; position = p }
+refused_step p r = record { entry = Err r; position = p }
 
-unfoldable pub opened_step : Bool → ℕ → List ℕ → Position → Opened → Stepped
-opened_step back n ws p (Good h) =
+unfoldable pub opened_step : Bool → ℕ → List ℕ → Position → Result Header Refusal → Stepped
+opened_step back n ws p (Ok h) =
     record {
       entry = (moved_of back n h ws p.ended (near_end back p) (far_end back p).last).entry;
       position = with_near back p (moved_of back n h ws p.ended (near_end back p) (far_end back p).last);
     }
-opened_step back n ws p (Shut r) = refused_step p r
+opened_step back n ws p (Err r) = refused_step p r
 
 -- 1, then 6, then the header (2), then 4 or what the nodes tell
 unfoldable pub step_of : Bool → ℕ → ℕ → List ℕ → Position → Stepped

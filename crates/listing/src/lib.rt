@@ -5,7 +5,8 @@ pub mod open; // open.rt: opening one node, and what a leaf comes to
 pub mod step; // step.rt: making a position, and a step at an end: popping and opening nodes until a leaf comes
 
 use inspection::Visited;
-use records::{Done, Entry, Header, NodeIndex, Refusal, ValueIndex};
+use keys::Key;
+use records::{NodeIndex, Refusal, Value, ValueIndex};
 
 // One end of a listing: the nodes that are still to be opened, the next one last, and the value record that was given last (0 for none). Places at or above `count` are
 // what earlier steps left there.
@@ -26,14 +27,14 @@ pub struct Position {
 // The answer of making a position.
 #[derive(Clone, Copy)]
 pub struct Made {
-    pub answer: Done,
+    pub answer: Result<(), Refusal>,
     pub position: Position,
 }
 
 // The answer of a step: its entry, and the position afterwards.
 #[derive(Clone, Copy)]
 pub struct Stepped {
-    pub entry: Entry,
+    pub entry: Result<(Key, Value), Refusal>,
     pub position: Position,
 }
 
@@ -43,13 +44,6 @@ pub enum Opens {
     On(NodeIndex, NodeIndex, Visited),
     Came,
     Spoiled,
-}
-
-// Whether a step may pop a node: the header, or why not.
-#[derive(Clone, Copy)]
-pub enum Admitted {
-    Go(Header),
-    No(Refusal),
 }
 
 // Where a stack stands when its leaf has come, for the definitions: the leaf or damage, the places and the count as popped and opened so far, and
@@ -68,7 +62,7 @@ pub struct Given {
     pub moves: bool,
     pub ended: bool,
     pub last: ValueIndex,
-    pub entry: Entry,
+    pub entry: Result<(Key, Value), Refusal>,
 }
 
 // What a step makes of the near end: its stack, the mark, and the entry.
@@ -76,5 +70,5 @@ pub struct Given {
 pub struct Moved {
     pub near: Stack,
     pub ended: bool,
-    pub entry: Entry,
+    pub entry: Result<(Key, Value), Refusal>,
 }

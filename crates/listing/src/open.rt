@@ -2,33 +2,13 @@
 ghost use Rattle.std.specs.Prelude.{◌≡◌, ◌+◌, ◌-◌, ◌*◌, ◌≤◌, ◌<◌, length};
 ghost use Rattle.words.specs.Words.{words};
 ghost use Rattle.inspection.specs.Room.{Room};
-ghost use Rattle.listing.specs.Step.{near_of, far_of, open_turn};
+ghost use Rattle.listing.specs.Step.{open_turn};
 ghost use Rattle.listing.specs.Ends.{stuck, live_given, given_of};
 
 use crate::{Given, Opens};
+use inspection::Visited;
 use inspection::visit::{live_value, node_ok, visit};
-use inspection::{Live, Visited};
-use records::{Entry, Header, Node, NodeIndex, Refusal, ValueIndex};
-
-// The child that is opened next.
-fn near(back: bool, x: Node) -> NodeIndex
-    ensures { result ≡ near_of back x }
-{
-    if back {
-        return x.right;
-    }
-    x.left
-}
-
-// The child that waits.
-fn far(back: bool, x: Node) -> NodeIndex
-    ensures { result ≡ far_of back x }
-{
-    if back {
-        return x.left;
-    }
-    x.right
-}
+use records::{Header, Node, NodeIndex, Refusal, Value, ValueIndex};
 
 // One node of the opening: node `i`, which has passed, on a stack of so many places. Both children are tested.
 pub fn open_turn(
@@ -47,9 +27,9 @@ pub fn open_turn(
             if count + 2 <= 129 {
                 if x.prefix < 128 {
                     let low = x.prefix + 1;
-                    let wait = far(back, x);
+                    let wait = x.child(!back);
                     if node_ok(img, h, wait, i, low) {
-                        let next = near(back, x);
+                        let next = x.child(back);
                         return Opens::On(wait, next, visit(img, h, next, i, low));
                     }
                 }
@@ -69,26 +49,23 @@ fn stopped(last: ValueIndex) -> Given
         moves: false,
         ended: false,
         last,
-        entry: Entry::Refused(Refusal::Damaged),
+        entry: Err(Refusal::Damaged),
     }
 }
 
 // A leaf's entry, by its value record.
-fn live_given(x: Node, last: ValueIndex, live: Live) -> Given
+#[tactic(auto, unfolding(crate::specs::Ends::live_given))]
+fn live_given(x: Node, last: ValueIndex, live: Option<Value>) -> Given
     ensures { result ≡ live_given x last live }
 {
     match live {
-        Live::Holds(v) => {
-            let key = x.key;
-            let own = x.value;
-            Given {
-                moves: true,
-                ended: false,
-                last: own,
-                entry: Entry::Is(key, v),
-            }
-        }
-        Live::Not => stopped(last),
+        Some(v) => Given {
+            moves: true,
+            ended: false,
+            last: x.value,
+            entry: Ok((x.key, v)),
+        },
+        None => stopped(last),
     }
 }
 
@@ -105,16 +82,15 @@ pub fn given(
 {
     match came {
         Visited::Leaf(x) => {
-            let j = x.value;
-            if j.0 == other.0 {
+            if x.value.0 == other.0 {
                 return Given {
                     moves: true,
                     ended: true,
                     last,
-                    entry: Entry::Refused(Refusal::Absent),
+                    entry: Err(Refusal::Absent),
                 };
             }
-            live_given(x, last, live_value(img, n, leaf, j))
+            live_given(x, last, live_value(img, n, leaf, x.value))
         }
         Visited::Inner(_) => stopped(last),
         Visited::Damaged => stopped(last),

@@ -8,11 +8,11 @@ ghost use Rattle.listing.specs.Step.{step_of};
 ghost use Rattle.listing.specs.Ends.{admit_of, end_step};
 
 use crate::open::{given, open_turn};
-use crate::{Admitted, Made, Moved, Opens, Position, Stack, Stepped};
+use crate::{Made, Moved, Opens, Position, Stack, Stepped};
+use inspection::Visited;
 use inspection::open::{is_image, open_image, open_shaped};
 use inspection::visit::visit_first;
-use inspection::{Opened, Visited};
-use records::{Done, Entry, NodeIndex, Refusal, ValueIndex};
+use records::{Header, NodeIndex, Refusal, ValueIndex};
 
 // ---- making a position
 
@@ -49,24 +49,21 @@ fn both_ends(s: Stack) -> Position
 }
 
 // A position before the first entry and behind the last. It tests shape and header only.
+#[tactic(auto, unfolding(crate::specs::Position::made_of, crate::specs::Position::opened_made))]
 pub fn list(img: &[u8], m: u32, n: u32) -> Made
     ensures { result ≡ made_of m n (image_of img.now) }
 {
     match open_image(img, m, n) {
-        Opened::Good(h) => {
-            if h.values.size == 0 {
-                return Made {
-                    answer: Done::Yes,
-                    position: both_ends(empty_stack()),
-                };
-            }
-            Made {
-                answer: Done::Yes,
-                position: both_ends(root_stack(h.root)),
-            }
-        }
-        Opened::Shut(r) => Made {
-            answer: Done::Refused(r),
+        Ok(h) => Made {
+            answer: Ok(()),
+            position: both_ends(if h.values.size == 0 {
+                empty_stack()
+            } else {
+                root_stack(h.root)
+            }),
+        },
+        Err(r) => Made {
+            answer: Err(r),
             position: both_ends(empty_stack()),
         },
     }
@@ -76,30 +73,20 @@ pub fn list(img: &[u8], m: u32, n: u32) -> Made
 
 // Whether a step may pop a node: the shape, then the position, then the header; then whether there is a node to pop.
 #[tactic(auto, using(inspection::specs::Room::shaped_opens, inspection::specs::Room::shaped_shut), unfolding(crate::specs::Ends::admit_of, crate::specs::Ends::opened_admit))]
-fn admit(img: &[u8], m: u32, n: u32, ended: bool, count: u32, held: u32) -> Admitted
+fn admit(img: &[u8], m: u32, n: u32, ended: bool, count: u32, held: u32) -> Result<Header, Refusal>
     ensures { result ≡ admit_of m n (image_of img.now) ended count held }
 {
-    if is_image(img, m, n) {
-        if count <= 129 {
-            if held <= 129 {
-                match open_shaped(img, m, n) {
-                    Opened::Good(h) => {
-                        if !ended {
-                            if count != 0 {
-                                return Admitted::Go(h);
-                            }
-                        }
-                        return Admitted::No(Refusal::Absent);
-                    }
-                    Opened::Shut(q) => {
-                        return Admitted::No(q);
-                    }
-                }
-            }
-        }
-        return Admitted::No(Refusal::Cursor);
+    if !is_image(img, m, n) {
+        return Err(Refusal::Shape);
     }
-    Admitted::No(Refusal::Shape)
+    if (129 < count) | (129 < held) {
+        return Err(Refusal::Cursor);
+    }
+    let h = open_shaped(img, m, n)?;
+    if ended | (count == 0) {
+        return Err(Refusal::Absent);
+    }
+    Ok(h)
 }
 
 // A step at one end, whose stack is `s`; the other end has so many places, and gave `other` last. The next node is popped, and nodes are opened from there on
@@ -117,11 +104,11 @@ fn step(
     ensures { result ≡ end_step back m n (image_of img.now) ended s held other }
 {
     let h = match admit(img, m, n, ended, s.count, held) {
-        Admitted::Go(h) => h,
-        Admitted::No(r) => return Moved {
+        Ok(h) => h,
+        Err(r) => return Moved {
             near: s,
             ended,
-            entry: Entry::Refused(r),
+            entry: Err(r),
         },
     };
     let mut places = s.places;
@@ -143,23 +130,19 @@ fn step(
             Opens::Spoiled => break Visited::Damaged,
         }
     };
-    let given_last = s.last;
-    let g = given(img, n, reached, i, given_last, other);
+    let g = given(img, n, reached, i, s.last, other);
     if !g.moves {
-        let before = s.places;
-        places = before;
+        places = s.places;
         count = s.count;
     }
-    let entry = g.entry;
-    let last = g.last;
     Moved {
         near: Stack {
             places,
             count,
-            last,
+            last: g.last,
         },
         ended: g.ended,
-        entry,
+        entry: g.entry,
     }
 }
 
@@ -167,16 +150,21 @@ fn step(
 pub fn next(img: &[u8], m: u32, n: u32, p: Position) -> Stepped
     ensures { result ≡ step_of false m n (image_of img.now) p }
 {
-    let front = p.front;
-    let rear = p.back;
-    let r = step(img, m, n, false, p.ended, front, rear.count, rear.last);
-    let near = r.near;
-    let entry = r.entry;
+    let r = step(
+        img,
+        m,
+        n,
+        false,
+        p.ended,
+        p.front,
+        p.back.count,
+        p.back.last,
+    );
     Stepped {
-        entry,
+        entry: r.entry,
         position: Position {
-            front: near,
-            back: rear,
+            front: r.near,
+            back: p.back,
             ended: r.ended,
         },
     }
@@ -186,16 +174,21 @@ pub fn next(img: &[u8], m: u32, n: u32, p: Position) -> Stepped
 pub fn next_back(img: &[u8], m: u32, n: u32, p: Position) -> Stepped
     ensures { result ≡ step_of true m n (image_of img.now) p }
 {
-    let front = p.front;
-    let rear = p.back;
-    let r = step(img, m, n, true, p.ended, rear, front.count, front.last);
-    let near = r.near;
-    let entry = r.entry;
+    let r = step(
+        img,
+        m,
+        n,
+        true,
+        p.ended,
+        p.back,
+        p.front.count,
+        p.front.last,
+    );
     Stepped {
-        entry,
+        entry: r.entry,
         position: Position {
-            front,
-            back: near,
+            front: p.front,
+            back: r.near,
             ended: r.ended,
         },
     }

@@ -1,15 +1,10 @@
 -- What the list's machine computes on short histories: each line is an equation that holds by computation alone. The keys are those of the bench examples of the rules B, "A is 2^127, B is 0, C is 1".
-use Rattle.std.specs.Prelude.{◌≡◌, refl, [], ◌∷◌, map, ℕ, ◌^◌}
+use Rattle.std.specs.Prelude.{◌≡◌, refl, [], ◌∷◌, map, ℕ, ◌^◌, Err, Ok}
 use Rattle.keys.specs.declared.Key.{Key}
 use Rattle.keys.specs.Number.{number_of}
 use Rattle.records.specs.declared.Value.{Value}
 use Rattle.records.specs.declared.Refusal.TheVariants as no
-use Rattle.records.specs.declared.Done.TheVariants as done
-use Rattle.records.specs.declared.Got.TheVariants as got
-use Rattle.records.specs.declared.Place.TheVariants as place
-use Rattle.records.specs.declared.Entry.TheVariants as entry
-use Rattle.records.specs.declared.Count.TheVariants as count
-use Rattle.records.specs.Numbers.{refusal_number, done_number, got_number, place_number, count_number}
+use Rattle.records.specs.Numbers.{refusal_number, answer_number}
 use Rattle.lists.specs.Answers.{done_is, got_is, place_is, entry_is, count_from, number_in, somewhere}
 use Rattle.lists.specs.Machine.{start, insert, remove, write, ask, get, contains, address, len, capacity, smallest, largest, check, Entries, blank, holding, state_answers, state_after}
 
@@ -36,13 +31,13 @@ entered = refl
 -- An insert of a held key gives it the new value, and no entry more.
 pub replaced :
     (state_after 3 (insert B (value 4) ∷ []) (holding two) ≡ holding ((B, value 4) ∷ (A, value 1) ∷ []))
-    × (state_answers 3 (insert B (value 4) ∷ ask (get B) ∷ ask len ∷ []) (holding two) ≡ somewhere ∷ got_is (got.Found (value 4)) ∷ count_from (count.Is 2) ∷ [])
+    × (state_answers 3 (insert B (value 4) ∷ ask (get B) ∷ ask len ∷ []) (holding two) ≡ somewhere ∷ got_is (Ok (value 4)) ∷ count_from (Ok 2) ∷ [])
 unfolding number_of
 replaced = (refl, refl)
 
 -- A full list refuses every insert, of a new key and of a held one, and stays as it is.
 pub full_refused :
-    (state_answers 2 (insert C (value 3) ∷ insert B (value 4) ∷ []) (holding two) ≡ place_is (place.Refused no.Full) ∷ place_is (place.Refused no.Full) ∷ [])
+    (state_answers 2 (insert C (value 3) ∷ insert B (value 4) ∷ []) (holding two) ≡ place_is (Err no.Full) ∷ place_is (Err no.Full) ∷ [])
     × (state_after 2 (insert C (value 3) ∷ insert B (value 4) ∷ []) (holding two) ≡ holding two)
 unfolding number_of
 full_refused = (refl, refl)
@@ -50,34 +45,34 @@ full_refused = (refl, refl)
 -- Remove gives the value and takes the entry out; after it the key is absent, and to remove it again changes nothing.
 pub removed :
     (state_answers 2 (remove B ∷ remove B ∷ ask (get B) ∷ ask len ∷ []) (holding two)
-    ≡ got_is (got.Found (value 2)) ∷ got_is (got.Refused no.Absent) ∷ got_is (got.Refused no.Absent) ∷ count_from (count.Is 1) ∷ [])
+    ≡ got_is (Ok (value 2)) ∷ got_is (Err no.Absent) ∷ got_is (Err no.Absent) ∷ count_from (Ok 1) ∷ [])
     × (state_after 2 (remove B ∷ remove B ∷ []) (holding two) ≡ holding ((A, value 1) ∷ []))
 unfolding number_of
 removed = (refl, refl)
 
 -- The value write gives a held key the value, and no key that is not held.
 pub written :
-    (state_answers 2 (write A (value 5) ∷ write C (value 3) ∷ []) (holding two) ≡ done_is done.Yes ∷ done_is (done.Refused no.Absent) ∷ [])
+    (state_answers 2 (write A (value 5) ∷ write C (value 3) ∷ []) (holding two) ≡ done_is (Ok tt) ∷ done_is (Err no.Absent) ∷ [])
     × (state_after 2 (write A (value 5) ∷ write C (value 3) ∷ []) (holding two) ≡ holding ((B, value 2) ∷ (A, value 5) ∷ []))
 unfolding number_of
 written = (refl, refl)
 
 -- The ends are the least and the greatest key; an empty list has none.
 pub both_ends_listed :
-    (state_answers 2 (ask smallest ∷ ask largest ∷ []) (holding two) ≡ entry_is (entry.Is B (value 2)) ∷ entry_is (entry.Is A (value 1)) ∷ [])
-    × (state_answers 2 (ask smallest ∷ ask largest ∷ []) (holding []) ≡ entry_is (entry.Refused no.Absent) ∷ entry_is (entry.Refused no.Absent) ∷ [])
+    (state_answers 2 (ask smallest ∷ ask largest ∷ []) (holding two) ≡ entry_is (Ok (B, (value 2))) ∷ entry_is (Ok (A, (value 1))) ∷ [])
+    × (state_answers 2 (ask smallest ∷ ask largest ∷ []) (holding []) ≡ entry_is (Err no.Absent) ∷ entry_is (Err no.Absent) ∷ [])
 both_ends_listed = (refl, refl)
 
 -- The other questions: what is there, how much, and how much there may be; the check wants as many words of scratch.
 pub asked :
     state_answers 2 (ask (contains A) ∷ ask (contains C) ∷ ask (address A) ∷ ask (address C) ∷ ask capacity ∷ ask (check (0 ∷ 0 ∷ [])) ∷ ask (check (0 ∷ [])) ∷ []) (holding two)
-    ≡ done_is done.Yes
-    ∷ done_is (done.Refused no.Absent)
+    ≡ done_is (Ok tt)
+    ∷ done_is (Err no.Absent)
     ∷ somewhere
-    ∷ place_is (place.Refused no.Absent)
-    ∷ count_from (count.Is 2)
-    ∷ done_is done.Yes
-    ∷ done_is (done.Refused no.Shape)
+    ∷ place_is (Err no.Absent)
+    ∷ count_from (Ok 2)
+    ∷ done_is (Ok tt)
+    ∷ done_is (Err no.Shape)
     ∷ []
 unfolding number_of
 asked = refl
@@ -85,5 +80,5 @@ asked = refl
 -- Blank memory refuses everything as damaged but the start, which only a list refuses; by number.
 pub started :
     map number_in (state_answers 2 (ask len ∷ insert A (value 1) ∷ remove A ∷ ask (check []) ∷ start ∷ ask len ∷ start ∷ []) blank) ≡ 2 ∷ 2 ∷ 2 ∷ 1 ∷ 0 ∷ 0 ∷ 5 ∷ []
-unfolding number_in refusal_number done_number got_number place_number count_number
+unfolding number_in refusal_number answer_number
 started = refl

@@ -4,16 +4,11 @@
 -- Named from Entries: `find`, `held`, `enter`, `update`, `erase` and `list_end`, on the ascending list. Named from Answers: the type of answers, `got_from`, `done_from` and `entry_from`, which answer refusal 4
 -- for what is not there, and `somewhere`, the place of an entry in a list, which has no node index. Listings are no calls of this machine: they take entries from either end of what the list was, and have
 -- their own file (crate `histories`, Listings).
-use Rattle.std.specs.Prelude.{List, [], ◌∷◌, Bool, true, false, cond, ℕ, ◌^◌, ◌<◌, length, eqb, leb}
+use Rattle.std.specs.Prelude.{List, [], ◌∷◌, Bool, true, false, cond, ℕ, ◌^◌, ◌<◌, length, eqb, leb, Err, Ok}
 use Rattle.keys.specs.declared.Key.{Key}
 use Rattle.keys.specs.Number.{Fits}
 use Rattle.records.specs.declared.Value.{Value}
 use Rattle.records.specs.declared.Refusal.TheVariants as no
-use Rattle.records.specs.declared.Done.TheVariants as done
-use Rattle.records.specs.declared.Got.TheVariants as got
-use Rattle.records.specs.declared.Place.TheVariants as place
-use Rattle.records.specs.declared.Entry.TheVariants as entry
-use Rattle.records.specs.declared.Count.TheVariants as count
 use Rattle.lists.specs.Entries.{find, held, enter, update, erase, list_end}
 use Rattle.lists.specs.Answers.{Answer, done_is, got_is, place_is, entry_is, count_from, got_from, done_from, entry_from, somewhere}
 
@@ -60,12 +55,12 @@ Entries = List (Key × Value)
 abbrev pub list_reply : ℕ → Question → Entries → Answer
 list_reply m (get key) es = got_is (got_from (find key es))
 list_reply m (contains key) es = done_is (done_from (held key es))
-list_reply m (address key) es = cond (held key es) somewhere (place_is (place.Refused no.Absent))
-list_reply m len es = count_from (count.Is (length es))
-list_reply m capacity es = count_from (count.Is m)
+list_reply m (address key) es = cond (held key es) somewhere (place_is (Err no.Absent))
+list_reply m len es = count_from (Ok (length es))
+list_reply m capacity es = count_from (Ok m)
 list_reply m smallest es = entry_is (entry_from (list_end false es))
 list_reply m largest es = entry_is (entry_from (list_end true es))
-list_reply m (check scratch) es = done_is (cond (leb m (length scratch)) done.Yes (done.Refused no.Shape))
+list_reply m (check scratch) es = done_is (cond (leb m (length scratch)) (Ok tt) (Err no.Shape))
 
 -- m entries fill the list
 abbrev pub full : ℕ → Entries → Bool
@@ -73,8 +68,8 @@ full m es = eqb (length es) m
 
 -- A list was started, so it is not started again. A full one refuses every insert, even of a key it holds. Remove gives the value.
 abbrev pub list_answer : ℕ → Call → Entries → Answer
-list_answer m start es = done_is (done.Refused no.NotBlank)
-list_answer m (insert key v) es = cond (full m es) (place_is (place.Refused no.Full)) somewhere
+list_answer m start es = done_is (Err no.NotBlank)
+list_answer m (insert key v) es = cond (full m es) (place_is (Err no.Full)) somewhere
 list_answer m (remove key) es = got_is (got_from (find key es))
 list_answer m (write key v) es = done_is (done_from (held key es))
 list_answer m (ask q) es = list_reply m q es
@@ -95,20 +90,20 @@ pub data State : Type 0 where
 
 -- blank memory has no header: whoever asks it for an entry is refused
 abbrev pub blank_reply : ℕ → Question → Answer
-blank_reply m (get key) = got_is (got.Refused no.Damaged)
-blank_reply m (contains key) = done_is (done.Refused no.Damaged)
-blank_reply m (address key) = place_is (place.Refused no.Damaged)
-blank_reply m len = count_from (count.Refused no.Damaged)
-blank_reply m capacity = count_from (count.Refused no.Damaged)
-blank_reply m smallest = entry_is (entry.Refused no.Damaged)
-blank_reply m largest = entry_is (entry.Refused no.Damaged)
-blank_reply m (check scratch) = done_is (done.Refused (cond (leb m (length scratch)) no.Damaged no.Shape))
+blank_reply m (get key) = got_is (Err no.Damaged)
+blank_reply m (contains key) = done_is (Err no.Damaged)
+blank_reply m (address key) = place_is (Err no.Damaged)
+blank_reply m len = count_from (Err no.Damaged)
+blank_reply m capacity = count_from (Err no.Damaged)
+blank_reply m smallest = entry_is (Err no.Damaged)
+blank_reply m largest = entry_is (Err no.Damaged)
+blank_reply m (check scratch) = done_is (Err (cond (leb m (length scratch)) no.Damaged no.Shape))
 
 abbrev pub blank_answer : ℕ → Call → Answer
-blank_answer m start = done_is done.Yes
-blank_answer m (insert key v) = place_is (place.Refused no.Damaged)
-blank_answer m (remove key) = got_is (got.Refused no.Damaged)
-blank_answer m (write key v) = done_is (done.Refused no.Damaged)
+blank_answer m start = done_is (Ok tt)
+blank_answer m (insert key v) = place_is (Err no.Damaged)
+blank_answer m (remove key) = got_is (Err no.Damaged)
+blank_answer m (write key v) = done_is (Err no.Damaged)
 blank_answer m (ask q) = blank_reply m q
 
 -- only start changes it, and leaves the empty list

@@ -1,7 +1,7 @@
 -- Demand 1 for the calls that only look or write a value: their numbers, each "when, and only then"; a refusal leaves every word, and its result is zeros; and no second outcome fits.
 use Rattle.std.proofs.Math.Path.{◌≡◌, refl, ap}
 use Rattle.std.proofs.Common.{sym, ◌∙◌, arith}
-use Rattle.std.specs.Prelude.{List, ◌≢◌, ◌↔◌, ◌⊎◌, Bool, cond, ℕ, ◌%◌, length}
+use Rattle.std.specs.Prelude.{List, ◌≢◌, ◌↔◌, ◌⊎◌, Bool, cond, ℕ, ◌%◌, length, Err, None, Ok, Result, Some}
 use Rattle.std.proofs.Math.Logic.{inl, inr}
 use Rattle.std.proofs.Math.Bool.{true, false, true≢false}
 use Rattle.words.specs.Words.{Bytes}
@@ -13,25 +13,12 @@ use Rattle.records.specs.declared.NodeIndex.{NodeIndex}
 use Rattle.records.specs.declared.Node.{Node}
 use Rattle.records.specs.declared.Refusal.{Refusal}
 use Rattle.records.specs.declared.Refusal.TheVariants as no
-use Rattle.inspection.specs.declared.Live.TheVariants as live
-use Rattle.inspection.specs.declared.Opened.{Opened}
-use Rattle.inspection.specs.declared.Opened.TheVariants.{Good, Shut}
-use Rattle.records.specs.declared.Done.{Done}
-use Rattle.records.specs.declared.Done.TheVariants as done
-use Rattle.records.specs.declared.Got.{Got}
-use Rattle.records.specs.declared.Got.TheVariants as got
-use Rattle.records.specs.declared.Place.{Place}
-use Rattle.records.specs.declared.Place.TheVariants as place
-use Rattle.records.specs.declared.Entry.{Entry}
-use Rattle.records.specs.declared.Entry.TheVariants as entry
-use Rattle.records.specs.declared.Count.{Count}
-use Rattle.records.specs.declared.Count.TheVariants as count
 use Rattle.records.specs.Layout.{image_of}
 use Rattle.records.specs.Records.{value_record_of}
 use Rattle.inspection.specs.Visit.{live_of}
 use Rattle.inspection.specs.Tests.{shape_ok, top_ok, live_value}
 use Rattle.inspection.specs.Opening.{open_of, blank_of}
-use Rattle.records.specs.Numbers.{refusal_number, done_number, got_number, place_number, entry_number, count_number, done_flag, got_value, place_index, entry_key, entry_value, count_is, zero_value, zero_key}
+use Rattle.records.specs.Numbers.{refusal_number, answer_number, done, done_flag, got_value, place_index, entry_key, entry_value, count_is, zero_value, zero_key}
 use Rattle.inspection.specs.Room.{opened_whole, shaped_whole}
 use Rattle.inspection.specs.Outcome.{Leaves, one_outcome}
 use Rattle.inspection.specs.Answers.{OpensAs, misshapen, unsound, sound, opens, shape_exactly, damage_exactly, other_exactly}
@@ -39,10 +26,9 @@ use Rattle.descent.specs.declared.Stop.{Stop}
 use Rattle.descent.specs.declared.Stop.TheVariants as stop
 use Rattle.descent.specs.Descent.{find_of, end_of}
 use Rattle.descent.specs.Bits.{Reached, leaf, fails, end_reaches}
-use Rattle.lookup.specs.declared.Target.{Target}
-use Rattle.lookup.specs.declared.Target.TheVariants.{At, No}
 use Rattle.lookup.specs.Start.{started, start_of, start_image, done_image, opened_length, length_of, opened_capacity, capacity_reply}
-use Rattle.lookup.specs.Get.{live_target, stop_target, opened_target, target_of, target_opened, target_got, get_of, target_done, write_of, target_image, write_image, stop_done, opened_done, contains_of, stop_place, opened_place, addr_of}
+use Rattle.descent.specs.Found.{stop_leaf}
+use Rattle.lookup.specs.Get.{live_target, leaf_target, stop_target, leaf_done, leaf_place, opened_target, target_of, target_opened, target_got, get_of, target_done, write_of, target_image, write_image, stop_done, opened_done, contains_of, stop_place, opened_place, addr_of}
 use Rattle.lookup.specs.Ends.{target_entry, opened_entry, end_entry}
 
 -- ---- what a stop comes to: absent where the key parts, damaged where a test fails
@@ -57,14 +43,14 @@ pub data Away : Stop → Type 0 where
   nothing : Away stop.Empty
   parted : (i : NodeIndex) (x : Node) (shared : ℕ) → Away (stop.Parted i x shared)
 
-unfoldable pub target_number : Target → ℕ
-target_number (At i x v) = 0
-target_number (No r) = refusal_number r
+unfoldable pub target_number : Result (NodeIndex × Node × Value) Refusal → ℕ
+target_number (Ok (i, x, v)) = 0
+target_number (Err r) = refusal_number r
 
 -- at a leaf
 module _ (n : ℕ) (ws : List ℕ) (i : NodeIndex) (x : Node) where
   abbrev at_leaf : Bool → ℕ
-  at_leaf b = target_number (live_target i x (cond b (live.Holds (value_record_of n ws x.value.0).value) live.Not))
+  at_leaf b = target_number (live_target i x (cond b (Some (value_record_of n ws x.value.0).value) None))
 
   leaf_damaged : (b : Bool) → live_value n ws i.0 x.value.0 ≡ b → (at_leaf b ≡ 2) ↔ Failed n ws (stop.Leaf i x)
   unfolding target_number live_target refusal_number
@@ -80,14 +66,14 @@ module _ (n : ℕ) (ws : List ℕ) (i : NodeIndex) (x : Node) where
   leaf_number false k e = inr (sym e)
 
 target_damaged : (n : ℕ) (ws : List ℕ) (s : Stop) → (target_number (stop_target n ws s) ≡ 2) ↔ Failed n ws s
-unfolding target_number stop_target refusal_number live_of
+unfolding target_number leaf_target stop_leaf refusal_number live_of
 target_damaged n ws (stop.Leaf i x) = leaf_damaged n ws i x (live_value n ws i.0 x.value.0) refl
 target_damaged n ws (stop.Parted i x c) = ((λ e. absurd (omega arith)), λ f. elim f [ ])
 target_damaged n ws stop.Empty = ((λ e. absurd (omega arith)), λ f. elim f [ ])
 target_damaged n ws stop.Damaged = ((λ e. visited), λ f. refl)
 
 target_absent : (n : ℕ) (ws : List ℕ) (s : Stop) → (target_number (stop_target n ws s) ≡ 4) ↔ Away s
-unfolding target_number stop_target refusal_number live_of
+unfolding target_number leaf_target stop_leaf refusal_number live_of
 target_absent n ws (stop.Leaf i x) = ((λ e. absurd (go (leaf_number n ws i x (live_value n ws i.0 x.value.0) 4 e))), λ f. elim f [ ])
   where
     go : (◌≡◌ {A = ℕ} 4 0) ⊎ (◌≡◌ {A = ℕ} 4 2) → ⊥
@@ -99,7 +85,7 @@ target_absent n ws stop.Damaged = ((λ e. absurd (omega arith)), λ f. elim f [ 
 
 -- no other number comes of a stop
 target_numbers : (n : ℕ) (ws : List ℕ) (s : Stop) (k : ℕ) → target_number (stop_target n ws s) ≡ k → (k ≡ 0) ⊎ ((k ≡ 2) ⊎ (k ≡ 4))
-unfolding target_number stop_target refusal_number live_of
+unfolding target_number leaf_target stop_leaf refusal_number live_of
 target_numbers n ws (stop.Leaf i x) k e = go (leaf_number n ws i x (live_value n ws i.0 x.value.0) k e)
   where
     go : (k ≡ 0) ⊎ (k ≡ 2) → (k ≡ 0) ⊎ ((k ≡ 2) ⊎ (k ≡ 4))
@@ -110,22 +96,22 @@ target_numbers n ws stop.Empty k e = inr (inr (sym e))
 target_numbers n ws stop.Damaged k e = inr (inl (sym e))
 
 -- contains and get_addr test no value record
-stop_damaged : (s : Stop) → (done_number (stop_done s) ≡ 2) ↔ (s ≡ stop.Damaged)
-unfolding done_number stop_done refusal_number
+stop_damaged : (s : Stop) → (answer_number (stop_done s) ≡ 2) ↔ (s ≡ stop.Damaged)
+unfolding answer_number leaf_done stop_leaf refusal_number
 stop_damaged (stop.Leaf i x) = ((λ e. absurd (omega arith)), λ f. let z : ◌≡◌ {A = ℕ} 0 1 = cc in absurd (omega arith))
 stop_damaged (stop.Parted i x c) = ((λ e. absurd (omega arith)), λ f. let z : ◌≡◌ {A = ℕ} 0 1 = cc in absurd (omega arith))
 stop_damaged stop.Empty = ((λ e. absurd (omega arith)), λ f. let z : ◌≡◌ {A = ℕ} 0 1 = cc in absurd (omega arith))
 stop_damaged stop.Damaged = ((λ e. refl), λ f. refl)
 
-stop_absent : (s : Stop) → (done_number (stop_done s) ≡ 4) ↔ Away s
-unfolding done_number stop_done refusal_number
+stop_absent : (s : Stop) → (answer_number (stop_done s) ≡ 4) ↔ Away s
+unfolding answer_number leaf_done stop_leaf refusal_number
 stop_absent (stop.Leaf i x) = ((λ e. absurd (omega arith)), λ f. elim f [ ])
 stop_absent (stop.Parted i x c) = ((λ e. parted i x c), λ f. refl)
 stop_absent stop.Empty = ((λ e. nothing), λ f. refl)
 stop_absent stop.Damaged = ((λ e. absurd (omega arith)), λ f. elim f [ ])
 
-stop_numbers : (s : Stop) (k : ℕ) → done_number (stop_done s) ≡ k → (k ≡ 0) ⊎ ((k ≡ 2) ⊎ (k ≡ 4))
-unfolding done_number stop_done refusal_number
+stop_numbers : (s : Stop) (k : ℕ) → answer_number (stop_done s) ≡ k → (k ≡ 0) ⊎ ((k ≡ 2) ⊎ (k ≡ 4))
+unfolding answer_number leaf_done stop_leaf refusal_number
 stop_numbers (stop.Leaf i x) k e = inl (sym e)
 stop_numbers (stop.Parted i x c) k e = inr (inr (sym e))
 stop_numbers stop.Empty k e = inr (inr (sym e))
@@ -137,12 +123,12 @@ stop_numbers stop.Damaged k e = inr (inl (sym e))
 pub record Numbers (m n : ℕ) (ws : List ℕ) (seek : Header → Stop) (Bad : Stop → Type 0) (number : ℕ) : Type 0 where
   pub shape : (number ≡ 1) ↔ (shape_ok m n (length ws) ≡ false)
   pub damaged : (number ≡ 2)
-      ↔ (((shape_ok m n (length ws) ≡ true) × (top_ok m n ws ≡ false)) ⊎ ((h : Header) × (open_of m n ws ≡ Good h) × Bad (seek h)))
-  pub absent : (number ≡ 4) ↔ ((h : Header) × (open_of m n ws ≡ Good h) × Away (seek h))
+      ↔ (((shape_ok m n (length ws) ≡ true) × (top_ok m n ws ≡ false)) ⊎ ((h : Header) × (open_of m n ws ≡ Ok h) × Bad (seek h)))
+  pub absent : (number ≡ 4) ↔ ((h : Header) × (open_of m n ws ≡ Ok h) × Away (seek h))
   pub no_other : (number ≡ 0) ⊎ ((number ≡ 1) ⊎ ((number ≡ 2) ⊎ (number ≡ 4)))
 
-module _ (m n : ℕ) (ws : List ℕ) (f : Opened → ℕ) (shut : (r : Refusal) → f (Shut r) ≡ refusal_number r) (seek : Header → Stop) (Bad : Stop → Type 0) (g : Stop → ℕ)
-    (good : (h : Header) → f (Good h) ≡ g (seek h)) (bad : (s : Stop) → (g s ≡ 2) ↔ Bad s) (away : (s : Stop) → (g s ≡ 4) ↔ Away s)
+module _ (m n : ℕ) (ws : List ℕ) (f : Result Header Refusal → ℕ) (shut : (r : Refusal) → f (Err r) ≡ refusal_number r) (seek : Header → Stop) (Bad : Stop → Type 0) (g : Stop → ℕ)
+    (good : (h : Header) → f (Ok h) ≡ g (seek h)) (bad : (s : Stop) → (g s ≡ 2) ↔ Bad s) (away : (s : Stop) → (g s ≡ 4) ↔ Away s)
     (few : (s : Stop) (k : ℕ) → g s ≡ k → (k ≡ 0) ⊎ ((k ≡ 2) ⊎ (k ≡ 4))) where
   some : (k : ℕ) → (k ≡ 0) ⊎ ((k ≡ 2) ⊎ (k ≡ 4)) → k ≢ 1
   some k (inl a) e = omega arith
@@ -154,12 +140,12 @@ module _ (m n : ℕ) (ws : List ℕ) (f : Opened → ℕ) (shut : (r : Refusal) 
   spread k (inr (inl a)) = inr (inr (inl a))
   spread k (inr (inr a)) = inr (inr (inr a))
 
-  ever : (o : Opened) → open_of m n ws ≡ o → (f o ≡ 0) ⊎ ((f o ≡ 1) ⊎ ((f o ≡ 2) ⊎ (f o ≡ 4)))
+  ever : (o : Result Header Refusal) → open_of m n ws ≡ o → (f o ≡ 0) ⊎ ((f o ≡ 1) ⊎ ((f o ≡ 2) ⊎ (f o ≡ 4)))
   unfolding refusal_number
-  ever (Good h) e = spread (f (Good h)) (few (seek h) (f (Good h)) (sym (good h)))
-  ever (Shut r) e = go (opens m n ws)
+  ever (Ok h) e = spread (f (Ok h)) (few (seek h) (f (Ok h)) (sym (good h)))
+  ever (Err r) e = go (opens m n ws)
     where
-      go : OpensAs m n ws → (f (Shut r) ≡ 0) ⊎ ((f (Shut r) ≡ 1) ⊎ ((f (Shut r) ≡ 2) ⊎ (f (Shut r) ≡ 4)))
+      go : OpensAs m n ws → (f (Err r) ≡ 0) ⊎ ((f (Err r) ≡ 1) ⊎ ((f (Err r) ≡ 2) ⊎ (f (Err r) ≡ 4)))
       go (misshapen p q) = let same : r ≡ no.Shape = cc in inr (inl (shut r ∙ ap refusal_number same))
       go (unsound p q o) = let same : r ≡ no.Damaged = cc in inr (inr (inl (shut r ∙ ap refusal_number same)))
       go (sound h p q o) = let z : ◌≡◌ {A = ℕ} 0 1 = cc in absurd (omega arith)
@@ -167,7 +153,7 @@ module _ (m n : ℕ) (ws : List ℕ) (f : Opened → ℕ) (shut : (r : Refusal) 
   numbers : Numbers m n ws seek Bad (f (open_of m n ws))
   numbers =
       record {
-        shape = shape_exactly f shut m n ws (λ h e. some (f (Good h)) (few (seek h) (f (Good h)) (sym (good h))) e);
+        shape = shape_exactly f shut m n ws (λ h e. some (f (Ok h)) (few (seek h) (f (Ok h)) (sym (good h))) e);
         damaged = (λ e. narrow ((damage_exactly f shut m n ws).0 e), λ c. (damage_exactly f shut m n ws).1 (widen c));
         absent = (
           λ e. (let c = (other_exactly f shut m n ws 4 (λ z. omega arith) (λ z. omega arith)).0 e in (c.0, c.1, (away (seek c.0)).0 (sym (good c.0) ∙ c.2))),
@@ -179,11 +165,11 @@ module _ (m n : ℕ) (ws : List ℕ) (f : Opened → ℕ) (shut : (r : Refusal) 
       HeaderFails : Type 0
       HeaderFails = (shape_ok m n (length ws) ≡ true) × (top_ok m n ws ≡ false)
 
-      narrow : HeaderFails ⊎ ((h : Header) × (open_of m n ws ≡ Good h) × (f (Good h) ≡ 2)) → HeaderFails ⊎ ((h : Header) × (open_of m n ws ≡ Good h) × Bad (seek h))
+      narrow : HeaderFails ⊎ ((h : Header) × (open_of m n ws ≡ Ok h) × (f (Ok h) ≡ 2)) → HeaderFails ⊎ ((h : Header) × (open_of m n ws ≡ Ok h) × Bad (seek h))
       narrow (inl a) = inl a
       narrow (inr (h, o, e)) = inr (h, o, (bad (seek h)).0 (sym (good h) ∙ e))
 
-      widen : HeaderFails ⊎ ((h : Header) × (open_of m n ws ≡ Good h) × Bad (seek h)) → HeaderFails ⊎ ((h : Header) × (open_of m n ws ≡ Good h) × (f (Good h) ≡ 2))
+      widen : HeaderFails ⊎ ((h : Header) × (open_of m n ws ≡ Ok h) × Bad (seek h)) → HeaderFails ⊎ ((h : Header) × (open_of m n ws ≡ Ok h) × (f (Ok h) ≡ 2))
       widen (inl a) = inl a
       widen (inr (h, o, e)) = inr (h, o, good h ∙ (bad (seek h)).1 e)
 
@@ -196,53 +182,53 @@ module _ (m n : ℕ) (ws : List ℕ) (key : Key) where
       numbers m n ws (λ o. target_number (opened_target n ws key o)) (λ r. refl) (λ h. find_of h ws key) (Failed n ws) (λ s. target_number (stop_target n ws s))
       (λ h. refl) (target_damaged n ws) (target_absent n ws) (target_numbers n ws)
 
-  got_target : (t : Target) → got_number (target_got t) ≡ target_number t
-  unfolding got_number target_got target_number
-  got_target (At i x v) = refl
-  got_target (No r) = refl
+  got_target : (t : Result (NodeIndex × Node × Value) Refusal) → answer_number (target_got t) ≡ target_number t
+  unfolding answer_number target_got target_number
+  got_target (Ok (i, x, v)) = refl
+  got_target (Err r) = refl
 
-  done_target : (t : Target) → done_number (target_done t) ≡ target_number t
-  unfolding done_number target_done target_number
-  done_target (At i x v) = refl
-  done_target (No r) = refl
+  done_target : (t : Result (NodeIndex × Node × Value) Refusal) → answer_number (target_done t) ≡ target_number t
+  unfolding answer_number target_done target_number
+  done_target (Ok (i, x, v)) = refl
+  done_target (Err r) = refl
 
-  pub get_numbers : Numbers m n ws (λ h. find_of h ws key) (Failed n ws) (got_number (get_of m n ws key))
+  pub get_numbers : Numbers m n ws (λ h. find_of h ws key) (Failed n ws) (answer_number (get_of m n ws key))
   unfolding get_of
   get_numbers = rw (got_target (target_of m n ws key)) by_target
 
-  pub set_numbers : Numbers m n ws (λ h. find_of h ws key) (Failed n ws) (done_number (write_of m n ws key))
+  pub set_numbers : Numbers m n ws (λ h. find_of h ws key) (Failed n ws) (answer_number (write_of m n ws key))
   unfolding write_of
   set_numbers = rw (done_target (target_of m n ws key)) by_target
 
-  pub contains_numbers : Numbers m n ws (λ h. find_of h ws key) (λ s. s ≡ stop.Damaged) (done_number (contains_of m n ws key))
-  unfolding contains_of opened_done done_number
+  pub contains_numbers : Numbers m n ws (λ h. find_of h ws key) (λ s. s ≡ stop.Damaged) (answer_number (contains_of m n ws key))
+  unfolding contains_of opened_done answer_number
   contains_numbers =
-      numbers m n ws (λ o. done_number (opened_done ws key o)) (λ r. refl) (λ h. find_of h ws key) (λ s. s ≡ stop.Damaged) (λ s. done_number (stop_done s))
+      numbers m n ws (λ o. answer_number (opened_done ws key o)) (λ r. refl) (λ h. find_of h ws key) (λ s. s ≡ stop.Damaged) (λ s. answer_number (stop_done s))
       (λ h. refl) stop_damaged stop_absent stop_numbers
 
-  place_stop : (s : Stop) → place_number (stop_place s) ≡ done_number (stop_done s)
-  unfolding place_number stop_place done_number stop_done
+  place_stop : (s : Stop) → answer_number (stop_place s) ≡ answer_number (stop_done s)
+  unfolding answer_number leaf_place leaf_done stop_leaf
   place_stop (stop.Leaf i x) = refl
   place_stop (stop.Parted i x c) = refl
   place_stop stop.Empty = refl
   place_stop stop.Damaged = refl
 
-  pub addr_numbers : Numbers m n ws (λ h. find_of h ws key) (λ s. s ≡ stop.Damaged) (place_number (addr_of m n ws key))
-  unfolding addr_of opened_place place_number
+  pub addr_numbers : Numbers m n ws (λ h. find_of h ws key) (λ s. s ≡ stop.Damaged) (answer_number (addr_of m n ws key))
+  unfolding addr_of opened_place answer_number
   addr_numbers =
-      numbers m n ws (λ o. place_number (opened_place ws key o)) (λ r. refl) (λ h. find_of h ws key) (λ s. s ≡ stop.Damaged) (λ s. done_number (stop_done s))
+      numbers m n ws (λ o. answer_number (opened_place ws key o)) (λ r. refl) (λ h. find_of h ws key) (λ s. s ≡ stop.Damaged) (λ s. answer_number (stop_done s))
       (λ h. place_stop (find_of h ws key)) stop_damaged stop_absent stop_numbers
 
 -- smallest and largest
-entry_target : (t : Target) → entry_number (target_entry t) ≡ target_number t
-unfolding entry_number target_entry target_number
-entry_target (At i x v) = refl
-entry_target (No r) = refl
+entry_target : (t : Result (NodeIndex × Node × Value) Refusal) → answer_number (target_entry t) ≡ target_number t
+unfolding answer_number target_entry target_number
+entry_target (Ok (i, x, v)) = refl
+entry_target (Err r) = refl
 
-pub end_numbers : (m n : ℕ) (ws : List ℕ) (right : Bool) → Numbers m n ws (λ h. end_of h ws right) (Failed n ws) (entry_number (end_entry m n ws right))
-unfolding end_entry opened_entry entry_number
+pub end_numbers : (m n : ℕ) (ws : List ℕ) (right : Bool) → Numbers m n ws (λ h. end_of h ws right) (Failed n ws) (answer_number (end_entry m n ws right))
+unfolding end_entry opened_entry answer_number
 end_numbers m n ws right =
-    numbers m n ws (λ o. entry_number (opened_entry n ws right o)) (λ r. refl) (λ h. end_of h ws right) (Failed n ws) (λ s. target_number (stop_target n ws s))
+    numbers m n ws (λ o. answer_number (opened_entry n ws right o)) (λ r. refl) (λ h. end_of h ws right) (Failed n ws) (λ s. target_number (stop_target n ws s))
     (λ h. entry_target (stop_target n ws (end_of h ws right))) (target_damaged n ws) (target_absent n ws) (target_numbers n ws)
 
 -- absent exactly in an empty map: the way to an end compares no key, so it parts nowhere
@@ -257,47 +243,47 @@ end_away h ws right = go (end_reaches h ws right)
     go (inl (none, e)) = ((λ a. none), λ z. rw e nothing)
     go (inr (some_held, r)) = ((λ a. absurd (never (end_of h ws right) r a)), λ z. absurd (some_held z))
 
-pub end_absent : (m n : ℕ) (ws : List ℕ) (right : Bool) → (entry_number (end_entry m n ws right) ≡ 4) ↔ ((h : Header) × (open_of m n ws ≡ Good h) × (h.values.size ≡ 0))
+pub end_absent : (m n : ℕ) (ws : List ℕ) (right : Bool) → (answer_number (end_entry m n ws right) ≡ 4) ↔ ((h : Header) × (open_of m n ws ≡ Ok h) × (h.values.size ≡ 0))
 end_absent m n ws right = (
   λ e. (let c = (end_numbers m n ws right).absent.0 e in (c.0, c.1, (end_away c.0 ws right).0 c.2)),
   λ c. (end_numbers m n ws right).absent.1 (c.0, c.1, (end_away c.0 ws right).1 c.2),
 )
 
 -- length and capacity refuse by shape and header alone
-pub length_numbers : (m n : ℕ) (ws : List ℕ) → (count_number (length_of m n ws) ≡ 1) ↔ (shape_ok m n (length ws) ≡ false)
-unfolding length_of opened_length count_number
-length_numbers m n ws = shape_exactly (λ o. count_number (opened_length o)) (λ r. refl) m n ws (λ h e. omega arith)
+pub length_numbers : (m n : ℕ) (ws : List ℕ) → (answer_number (length_of m n ws) ≡ 1) ↔ (shape_ok m n (length ws) ≡ false)
+unfolding length_of opened_length answer_number
+length_numbers m n ws = shape_exactly (λ o. answer_number (opened_length o)) (λ r. refl) m n ws (λ h e. omega arith)
 
-pub length_damaged : (m n : ℕ) (ws : List ℕ) → (count_number (length_of m n ws) ≡ 2) ↔ ((shape_ok m n (length ws) ≡ true) × (top_ok m n ws ≡ false))
-unfolding length_of opened_length count_number
+pub length_damaged : (m n : ℕ) (ws : List ℕ) → (answer_number (length_of m n ws) ≡ 2) ↔ ((shape_ok m n (length ws) ≡ true) × (top_ok m n ws ≡ false))
+unfolding length_of opened_length answer_number
 length_damaged m n ws =
-    let both = damage_exactly (λ o. count_number (opened_length o)) (λ r. refl) m n ws in
+    let both = damage_exactly (λ o. answer_number (opened_length o)) (λ r. refl) m n ws in
     ((λ e. header (both.0 e)), λ c. both.1 (inl c))
   where
     -- an image that opens has a length
-    header : ((shape_ok m n (length ws) ≡ true) × (top_ok m n ws ≡ false)) ⊎ ((h : Header) × (open_of m n ws ≡ Good h) × (count_number (opened_length (Good h)) ≡ 2))
+    header : ((shape_ok m n (length ws) ≡ true) × (top_ok m n ws ≡ false)) ⊎ ((h : Header) × (open_of m n ws ≡ Ok h) × (answer_number (opened_length (Ok h)) ≡ 2))
         → (shape_ok m n (length ws) ≡ true) × (top_ok m n ws ≡ false)
     header (inl a) = a
     header (inr (h, o, e)) = absurd (omega arith)
 
-pub capacity_as_length : (m n : ℕ) (ws : List ℕ) → count_number (capacity_reply m n ws) ≡ count_number (length_of m n ws)
-unfolding capacity_reply length_of opened_capacity opened_length count_number
+pub capacity_as_length : (m n : ℕ) (ws : List ℕ) → answer_number (capacity_reply m n ws) ≡ answer_number (length_of m n ws)
+unfolding capacity_reply length_of opened_capacity opened_length answer_number
 capacity_as_length m n ws = go (open_of m n ws)
   where
-    go : (o : Opened) → count_number (opened_capacity m o) ≡ count_number (opened_length o)
-    go (Good h) = refl
-    go (Shut r) = refl
+    go : (o : Result Header Refusal) → answer_number (opened_capacity m o) ≡ answer_number (opened_length o)
+    go (Ok h) = refl
+    go (Err r) = refl
 
 -- start: 1, then 5
 pub start_numbers : (m n : ℕ) (ws : List ℕ)
-    → ((done_number (start_of m n ws) ≡ 1) ↔ (shape_ok m n (length ws) ≡ false))
-    × ((done_number (start_of m n ws) ≡ 5) ↔ ((shape_ok m n (length ws) ≡ true) × (zeros_at ws 0 (length ws) ≡ false)))
-    × ((done_number (start_of m n ws) ≡ 0) ↔ ((shape_ok m n (length ws) ≡ true) × (zeros_at ws 0 (length ws) ≡ true)))
-unfolding blank_of done_number refusal_number
+    → ((answer_number (start_of m n ws) ≡ 1) ↔ (shape_ok m n (length ws) ≡ false))
+    × ((answer_number (start_of m n ws) ≡ 5) ↔ ((shape_ok m n (length ws) ≡ true) × (zeros_at ws 0 (length ws) ≡ false)))
+    × ((answer_number (start_of m n ws) ≡ 0) ↔ ((shape_ok m n (length ws) ≡ true) × (zeros_at ws 0 (length ws) ≡ true)))
+unfolding blank_of answer_number refusal_number
 start_numbers m n ws = go (shape_ok m n (length ws)) (zeros_at ws 0 (length ws))
   where
     number : Bool → Bool → ℕ
-    number a b = done_number (cond a (cond b done.Yes (done.Refused no.NotBlank)) (done.Refused no.Shape))
+    number a b = answer_number (cond a (cond b done (Err no.NotBlank)) (Err no.Shape))
 
     go : (a b : Bool)
         → ((number a b ≡ 1) ↔ (a ≡ false)) × ((number a b ≡ 5) ↔ ((a ≡ true) × (b ≡ false))) × ((number a b ≡ 0) ↔ ((a ≡ true) × (b ≡ true)))
@@ -310,66 +296,66 @@ start_numbers m n ws = go (shape_ok m n (length ws)) (zeros_at ws 0 (length ws))
 
 -- ---- a refusal leaves every word, and its result is zeros
 
-pub start_kept : (m n : ℕ) (ws : List ℕ) → done_number (start_of m n ws) ≢ 0 → start_image m n ws ≡ ws
-unfolding start_image done_image done_number
+pub start_kept : (m n : ℕ) (ws : List ℕ) → answer_number (start_of m n ws) ≢ 0 → start_image m n ws ≡ ws
+unfolding start_image done_image answer_number
 start_kept m n ws e = go (start_of m n ws) e
   where
-    go : (d : Done) → done_number d ≢ 0 → done_image ws (started m n ws) d ≡ ws
-    go done.Yes f = absurd (f refl)
-    go (done.Refused r) f = refl
+    go : (d : Result Unit Refusal) → answer_number d ≢ 0 → done_image ws (started m n ws) d ≡ ws
+    go (Ok tt) f = absurd (f refl)
+    go (Err r) f = refl
 
-pub set_kept : (m n : ℕ) (ws : List ℕ) (key : Key) (v : Value) → done_number (write_of m n ws key) ≢ 0 → write_image m n ws key v ≡ ws
-unfolding write_of write_image target_done target_image done_number
+pub set_kept : (m n : ℕ) (ws : List ℕ) (key : Key) (v : Value) → answer_number (write_of m n ws key) ≢ 0 → write_image m n ws key v ≡ ws
+unfolding write_of write_image target_done target_image answer_number
 set_kept m n ws key v e = go (target_of m n ws key) e
   where
-    go : (t : Target) → done_number (target_done t) ≢ 0 → target_image m n ws v t ≡ ws
-    go (At i x old) f = absurd (f refl)
-    go (No r) f = refl
+    go : (t : Result (NodeIndex × Node × Value) Refusal) → answer_number (target_done t) ≢ 0 → target_image m n ws v t ≡ ws
+    go (Ok (i, x, old)) f = absurd (f refl)
+    go (Err r) f = refl
 
-pub got_zeros : (a : Got) → got_number a ≢ 0 → got_value a ≡ zero_value
-unfolding got_number got_value
-got_zeros (got.Found v) e = absurd (e refl)
-got_zeros (got.Refused r) e = refl
+pub got_zeros : (a : Result Value Refusal) → answer_number a ≢ 0 → got_value a ≡ zero_value
+unfolding answer_number got_value
+got_zeros (Ok v) e = absurd (e refl)
+got_zeros (Err r) e = refl
 
-pub done_zeros : (a : Done) → done_number a ≢ 0 → done_flag a ≡ false
-unfolding done_number done_flag
-done_zeros done.Yes e = absurd (e refl)
-done_zeros (done.Refused r) e = refl
+pub done_zeros : (a : Result Unit Refusal) → answer_number a ≢ 0 → done_flag a ≡ false
+unfolding answer_number done_flag
+done_zeros (Ok tt) e = absurd (e refl)
+done_zeros (Err r) e = refl
 
-pub place_zeros : (a : Place) → place_number a ≢ 0 → place_index a ≡ 0
-unfolding place_number place_index
-place_zeros (place.At i) e = absurd (e refl)
-place_zeros (place.Refused r) e = refl
+pub place_zeros : (a : Result NodeIndex Refusal) → answer_number a ≢ 0 → place_index a ≡ 0
+unfolding answer_number place_index
+place_zeros (Ok i) e = absurd (e refl)
+place_zeros (Err r) e = refl
 
-pub entry_zeros : (a : Entry) → entry_number a ≢ 0 → (entry_key a ≡ zero_key) × (entry_value a ≡ zero_value)
-unfolding entry_number entry_key entry_value
-entry_zeros (entry.Is k v) e = absurd (e refl)
-entry_zeros (entry.Refused r) e = (refl, refl)
+pub entry_zeros : (a : Result (Key × Value) Refusal) → answer_number a ≢ 0 → (entry_key a ≡ zero_key) × (entry_value a ≡ zero_value)
+unfolding answer_number entry_key entry_value
+entry_zeros (Ok (k, v)) e = absurd (e refl)
+entry_zeros (Err r) e = (refl, refl)
 
-pub count_zeros : (a : Count) → count_number a ≢ 0 → count_is a ≡ 0
-unfolding count_number count_is
-count_zeros (count.Is k) e = absurd (e refl)
-count_zeros (count.Refused r) e = refl
+pub count_zeros : (a : Result ℕ Refusal) → answer_number a ≢ 0 → count_is a ≡ 0
+unfolding answer_number count_is
+count_zeros (Ok k) e = absurd (e refl)
+count_zeros (Err r) e = refl
 
 -- ---- no second outcome fits. (A call that only reads has an answer alone, and its contract is an equation for it.)
 
 pub start_once : (m n : ℕ) {before a b : List ℕ} → Bytes a → Bytes b → length a ≡ length before → length b ≡ length before
-    → Leaves before a (done_number (start_of m n (image_of before))) (start_image m n (image_of before))
-    → Leaves before b (done_number (start_of m n (image_of before))) (start_image m n (image_of before)) → a ≡ b
+    → Leaves before a (answer_number (start_of m n (image_of before))) (start_image m n (image_of before))
+    → Leaves before b (answer_number (start_of m n (image_of before))) (start_image m n (image_of before)) → a ≡ b
 start_once m n {before} small small' long long' x y =
     one_outcome (λ e. shaped_whole m n before ((start_numbers m n (image_of before)).2.0 e).0) small small' long long' x y
 
 pub set_once : (m n : ℕ) (key : Key) (v : Value) {before a b : List ℕ} → Bytes a → Bytes b → length a ≡ length before → length b ≡ length before
-    → Leaves before a (done_number (write_of m n (image_of before) key)) (write_image m n (image_of before) key v)
-    → Leaves before b (done_number (write_of m n (image_of before) key)) (write_image m n (image_of before) key v) → a ≡ b
-unfolding write_of target_done done_number refusal_number
+    → Leaves before a (answer_number (write_of m n (image_of before) key)) (write_image m n (image_of before) key v)
+    → Leaves before b (answer_number (write_of m n (image_of before) key)) (write_image m n (image_of before) key v) → a ≡ b
+unfolding write_of target_done answer_number refusal_number
 set_once m n key v {before} small small' long long' x y = one_outcome (λ e. whole (target_of m n (image_of before) key) refl e) small small' long long' x y
   where
-    whole : (t : Target) → target_of m n (image_of before) key ≡ t → done_number (target_done t) ≡ 0 → length before % 4 ≡ 0
-    whole (At i x w) q e = let o = target_opened m n (image_of before) key i x w q in opened_whole m n before o.0 o.1
-    whole (No no.Shape) q e = absurd (omega arith)
-    whole (No no.Damaged) q e = absurd (omega arith)
-    whole (No no.Full) q e = absurd (omega arith)
-    whole (No no.Absent) q e = absurd (omega arith)
-    whole (No no.NotBlank) q e = absurd (omega arith)
-    whole (No no.Cursor) q e = absurd (omega arith)
+    whole : (t : Result (NodeIndex × Node × Value) Refusal) → target_of m n (image_of before) key ≡ t → answer_number (target_done t) ≡ 0 → length before % 4 ≡ 0
+    whole (Ok (i, x, w)) q e = let o = target_opened m n (image_of before) key i x w q in opened_whole m n before o.0 o.1
+    whole (Err no.Shape) q e = absurd (omega arith)
+    whole (Err no.Damaged) q e = absurd (omega arith)
+    whole (Err no.Full) q e = absurd (omega arith)
+    whole (Err no.Absent) q e = absurd (omega arith)
+    whole (Err no.NotBlank) q e = absurd (omega arith)
+    whole (Err no.Cursor) q e = absurd (omega arith)

@@ -3,40 +3,30 @@ ghost use Rattle.std.specs.Prelude.{◌≡◌};
 ghost use Rattle.records.specs.Layout.{image_of};
 ghost use Rattle.lookup.specs.Ends.{end_entry, smallest_of, largest_of};
 
-use crate::Target;
 use crate::get::stop_target;
 use descent::find_end;
-use inspection::Opened;
 use inspection::open::open_image;
-use records::Entry;
+use keys::Key;
+use records::{Refusal, Value};
 
-fn end_entry(img: &[u8], m: u32, n: u32, right: bool) -> Entry
+#[tactic(auto, using(inspection::specs::Room::room, inspection::specs::Room::opened_words), unfolding(crate::specs::Ends::end_entry, crate::specs::Ends::opened_entry, crate::specs::Ends::target_entry))]
+fn end_entry(img: &[u8], m: u32, n: u32, right: bool) -> Result<(Key, Value), Refusal>
     ensures { result ≡ end_entry m n (image_of img.now) right }
 {
-    match open_image(img, m, n) {
-        Opened::Good(h) => {
-            let found = stop_target(img, n, find_end(img, h, right));
-            match found {
-                Target::At(_, x, v) => {
-                    let key = x.key;
-                    Entry::Is(key, v)
-                }
-                Target::No(r) => Entry::Refused(r),
-            }
-        }
-        Opened::Shut(r) => Entry::Refused(r),
-    }
+    let h = open_image(img, m, n)?;
+    let (_, x, v) = stop_target(img, n, find_end(img, h, right))?;
+    Ok((x.key, v))
 }
 
 // The entry with the smallest key.
-pub fn get_min(img: &[u8], m: u32, n: u32) -> Entry
+pub fn get_min(img: &[u8], m: u32, n: u32) -> Result<(Key, Value), Refusal>
     ensures { result ≡ smallest_of m n (image_of img.now) }
 {
     end_entry(img, m, n, false)
 }
 
 // The entry with the largest key.
-pub fn get_max(img: &[u8], m: u32, n: u32) -> Entry
+pub fn get_max(img: &[u8], m: u32, n: u32) -> Result<(Key, Value), Refusal>
     ensures { result ≡ largest_of m n (image_of img.now) }
 {
     end_entry(img, m, n, true)

@@ -5,12 +5,3 @@
 pub mod start; // start.rt: blank memory becomes an empty map
 pub mod get; // get.rt: by a key
 pub mod ends; // ends.rt: smallest and largest
-
-use records::{Node, NodeIndex, Refusal, Value};
-
-// A leaf and its value, whose record is tested; or the refusal.
-#[derive(Clone, Copy)]
-pub enum Target {
-    At(NodeIndex, Node, Value),
-    No(Refusal),
-}

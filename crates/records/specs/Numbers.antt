@@ -1,20 +1,11 @@
 -- The number of each answer, and the values that come with it: the rules R. 0 is the number of a call that does not refuse, and every number of a
 -- refused answer is 0.
-use Rattle.std.specs.Prelude.{Bool, true, false, ℕ}
+use Rattle.std.specs.Prelude.{Bool, true, false, ℕ, Err, Ok, Result}
+use Rattle.records.specs.declared.NodeIndex.{NodeIndex}
 use Rattle.keys.specs.declared.Key.{Key}
 use Rattle.records.specs.declared.Value.{Value}
 use Rattle.records.specs.declared.Refusal.{Refusal}
 use Rattle.records.specs.declared.Refusal.TheVariants as no
-use Rattle.records.specs.declared.Done.{Done}
-use Rattle.records.specs.declared.Done.TheVariants as done
-use Rattle.records.specs.declared.Got.{Got}
-use Rattle.records.specs.declared.Got.TheVariants as got
-use Rattle.records.specs.declared.Place.{Place}
-use Rattle.records.specs.declared.Place.TheVariants as place
-use Rattle.records.specs.declared.Entry.{Entry}
-use Rattle.records.specs.declared.Entry.TheVariants as entry
-use Rattle.records.specs.declared.Count.{Count}
-use Rattle.records.specs.declared.Count.TheVariants as count
 
 unfoldable pub refusal_number : Refusal → ℕ
 refusal_number no.Shape = 1
@@ -24,57 +15,45 @@ refusal_number no.Absent = 4
 refusal_number no.NotBlank = 5
 refusal_number no.Cursor = 6
 
+-- the answer of a call that has done what was asked and has nothing to give
+abbrev pub done : Result Unit Refusal
+done = Ok tt
+
 abbrev pub zero_value : Value
 zero_value = record { first = 0; second = 0 }
 
 abbrev pub zero_key : Key
 zero_key = record { high = 0; low = 0 }
 
--- ---- the number of each answer
+-- ---- the number of an answer
 
-unfoldable pub done_number : Done → ℕ
-done_number done.Yes = 0
-done_number (done.Refused r) = refusal_number r
-
-unfoldable pub got_number : Got → ℕ
-got_number (got.Found v) = 0
-got_number (got.Refused r) = refusal_number r
-
-unfoldable pub place_number : Place → ℕ
-place_number (place.At i) = 0
-place_number (place.Refused r) = refusal_number r
-
-unfoldable pub entry_number : Entry → ℕ
-entry_number (entry.Is k v) = 0
-entry_number (entry.Refused r) = refusal_number r
-
-unfoldable pub count_number : Count → ℕ
-count_number (count.Is n) = 0
-count_number (count.Refused r) = refusal_number r
+unfoldable pub answer_number : {A : Type 0} → Result A Refusal → ℕ
+answer_number (Ok a) = 0
+answer_number (Err r) = refusal_number r
 
 -- ---- the values that come with it
 
 -- contains: true, and false where it refuses
-unfoldable pub done_flag : Done → Bool
-done_flag done.Yes = true
-done_flag (done.Refused r) = false
+unfoldable pub done_flag : Result Unit Refusal → Bool
+done_flag (Ok tt) = true
+done_flag (Err r) = false
 
-unfoldable pub got_value : Got → Value
-got_value (got.Found v) = v
-got_value (got.Refused r) = zero_value
+unfoldable pub got_value : Result Value Refusal → Value
+got_value (Ok v) = v
+got_value (Err r) = zero_value
 
-unfoldable pub place_index : Place → ℕ
-place_index (place.At i) = i.0
-place_index (place.Refused r) = 0
+unfoldable pub place_index : Result NodeIndex Refusal → ℕ
+place_index (Ok i) = i.0
+place_index (Err r) = 0
 
-unfoldable pub entry_key : Entry → Key
-entry_key (entry.Is k v) = k
-entry_key (entry.Refused r) = zero_key
+unfoldable pub entry_key : Result (Key × Value) Refusal → Key
+entry_key (Ok (k, v)) = k
+entry_key (Err r) = zero_key
 
-unfoldable pub entry_value : Entry → Value
-entry_value (entry.Is k v) = v
-entry_value (entry.Refused r) = zero_value
+unfoldable pub entry_value : Result (Key × Value) Refusal → Value
+entry_value (Ok (k, v)) = v
+entry_value (Err r) = zero_value
 
-unfoldable pub count_is : Count → ℕ
-count_is (count.Is n) = n
-count_is (count.Refused r) = 0
+unfoldable pub count_is : Result ℕ Refusal → ℕ
+count_is (Ok n) = n
+count_is (Err r) = 0

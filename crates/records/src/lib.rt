@@ -5,8 +5,8 @@
 pub mod read; // read.rt: the header, a node, a value record, and the words that are padding
 pub mod write; // write.rt: a node's data, a value record, the root
 
-ghost use Rattle.std.specs.Prelude.{◌≡◌};
-ghost use Rattle.records.specs.Numbers.{refusal_number};
+ghost use Rattle.std.specs.Prelude.{◌≡◌, cond};
+ghost use Rattle.records.specs.Numbers.{refusal_number, answer_number};
 
 use keys::Key;
 use node_allocator::Counts;
@@ -44,6 +44,15 @@ pub struct Node {
     pub prefix: u64,
 }
 
+impl Node {
+    // The child on one side.
+    pub fn child(self, right: bool) -> NodeIndex
+        ensures { result ≡ cond right self.right self.left }
+    {
+        if right { self.right } else { self.left }
+    }
+}
+
 #[derive(Clone, Copy)]
 pub struct ValueRecord {
     pub register0: u32,
@@ -53,62 +62,31 @@ pub struct ValueRecord {
     pub value: Value,
 }
 
-// Why a call refuses. `refusal_number` in specs/Numbers.antt gives the number of each.
-#[derive(Clone, Copy)]
+// Why a call refuses: the error of every call's `Result`. `refusal_number` in specs/Numbers.antt gives the number of each.
+#[derive(Clone, Copy, PartialEq, Eq)]
 pub enum Refusal {
-    Shape,
-    Damaged,
-    Full,
-    Absent,
-    NotBlank,
-    Cursor,
+    Shape = 1,
+    Damaged = 2,
+    Full = 3,
+    Absent = 4,
+    NotBlank = 5,
+    Cursor = 6,
 }
 
-// The answer of start, contains and the value write.
-#[derive(Clone, Copy)]
-pub enum Done {
-    Yes,
-    Refused(Refusal),
-}
-
-// The answer of get and remove.
-#[derive(Clone, Copy)]
-pub enum Got {
-    Found(Value),
-    Refused(Refusal),
-}
-
-// The answer of insert and `get_addr`.
-#[derive(Clone, Copy)]
-pub enum Place {
-    At(NodeIndex),
-    Refused(Refusal),
-}
-
-// The answer of smallest and largest, and of a listing's step.
-#[derive(Clone, Copy)]
-pub enum Entry {
-    Is(Key, Value),
-    Refused(Refusal),
-}
-
-// The answer of length and capacity.
-#[derive(Clone, Copy)]
-pub enum Count {
-    Is(u64),
-    Refused(Refusal),
+// The number of an answer: 0 where the call did what was asked.
+#[tactic(auto, unfolding(crate::specs::Numbers::answer_number))]
+pub fn answer_number<T: Copy>(answer: Result<T, Refusal>) -> u32
+    ensures { result ≡ answer_number answer }
+{
+    match answer {
+        Ok(_) => 0,
+        Err(r) => number(r),
+    }
 }
 
 // The number of a refusal.
 pub fn number(r: Refusal) -> u32
     ensures { result ≡ refusal_number r }
 {
-    match r {
-        Refusal::Shape => 1,
-        Refusal::Damaged => 2,
-        Refusal::Full => 3,
-        Refusal::Absent => 4,
-        Refusal::NotBlank => 5,
-        Refusal::Cursor => 6,
-    }
+    r as u32
 }

@@ -7,14 +7,14 @@ mod steps; // steps.rt: what it then writes
 
 ghost use Rattle.std.specs.Prelude.{◌≡◌};
 ghost use Rattle.records.specs.Layout.{image_of};
-ghost use Rattle.records.specs.Numbers.{got_number};
+ghost use Rattle.records.specs.Numbers.{answer_number};
 ghost use Rattle.inspection.specs.Outcome.{Leaves};
 ghost use Rattle.remove.specs.Steps.{remove_of, removed_image};
 
 use crate::steps::{remove_cut, remove_lone};
 use crate::tests::image_plan;
 use keys::Key;
-use records::{Got, Header, Node, NodeIndex, Refusal, Value};
+use records::{Header, Node, NodeIndex, Refusal, Value};
 
 // What remove is going to do, found out before any write: the header, the leaf's index and record, and the value that
 // it held. A leaf below a node comes with that node's record and with its sibling's index and record.
@@ -22,23 +22,21 @@ use records::{Got, Header, Node, NodeIndex, Refusal, Value};
 pub enum Plan {
     Lone(Header, NodeIndex, Node, Value),
     Cut(Header, NodeIndex, Node, Node, NodeIndex, Node, Value),
-    Refused(Refusal),
 }
 
 // Removes a key and answers its value; or refuses.
-pub fn remove(img: &mut [u8], m: u32, n: u32, key: Key) -> Got
+pub fn remove(img: &mut [u8], m: u32, n: u32, key: Key) -> Result<Value, Refusal>
     ensures answer { result ≡ remove_of m n (image_of img.old) key }
-    ensures image { Leaves img.old img.new (got_number (remove_of m n (image_of img.old) key)) (removed_image m n (image_of img.old) key) }
+    ensures image { Leaves img.old img.new (answer_number (remove_of m n (image_of img.old) key)) (removed_image m n (image_of img.old) key) }
 {
-    match image_plan(img, m, n, key) {
+    match image_plan(img, m, n, key)? {
         Plan::Cut(h, i, x, y, s, z, v) => {
             remove_cut(img, m, n, h, i, x, y, s, z);
-            Got::Found(v)
+            Ok(v)
         }
         Plan::Lone(h, i, x, v) => {
             remove_lone(img, m, n, h, i, x);
-            Got::Found(v)
+            Ok(v)
         }
-        Plan::Refused(r) => Got::Refused(r),
     }
 }

@@ -1,5 +1,7 @@
 -- The starred bench examples of the rules, one table under one statement: each line is computed from the calls' definitions, beginning with blank memory.
-use Rattle.std.specs.Prelude.{◌≡◌, refl, List, [], ◌∷◌, Bool, true, false, ℕ, ◌+◌, ◌^◌, set, replicate}
+use Rattle.std.specs.Prelude.{◌≡◌, refl, List, [], ◌∷◌, Bool, true, false, ℕ, ◌+◌, ◌^◌, set, replicate, Err, Ok, Result}
+use Rattle.records.specs.declared.Refusal.{Refusal}
+use Rattle.records.specs.declared.NodeIndex.{NodeIndex}
 use Rattle.words.specs.Wide.{wide_at, set_wide}
 use Rattle.words.specs.Zeros.{zeros_at}
 use Rattle.keys.specs.declared.Key.{Key}
@@ -7,16 +9,11 @@ use Rattle.keys.specs.Number.{number_of}
 use Rattle.keys.specs.Common.{common, common_of, bit_of}
 use Rattle.node_allocator.specs.Layout.{header_at, record_at, capacity_of, width_of, values_at}
 use Rattle.node_allocator.specs.Steps.{counts_of, set_counts, initialized, get_register, set_register, never_used, taken, add_counts, add_image, freed, remove_counts, remove_image}
-use Rattle.records.specs.declared.Done.TheVariants as done
-use Rattle.records.specs.declared.Entry.{Entry}
-use Rattle.records.specs.declared.Entry.TheVariants as entry
-use Rattle.records.specs.declared.Got.TheVariants as got
-use Rattle.records.specs.declared.Place.{Place}
-use Rattle.records.specs.declared.Place.TheVariants as place
 use Rattle.records.specs.declared.Refusal.TheVariants as no
 use Rattle.records.specs.declared.Value.{Value}
 use Rattle.records.specs.Layout.{image_length}
 use Rattle.records.specs.Records.{header_of, front_of, spare_of, node_of, padding_of, record_from}
+use Rattle.descent.specs.Found.{stop_leaf}
 use Rattle.inspection.specs.Tests.{arena_ok, counts_ok, header_ok, top_ok, padding_ok, form_ok, node_ok, root_ok, kids_ok, live_value, free_node, free_value}
 use Rattle.inspection.specs.Visit.{visit_of, first_of, live_of}
 use Rattle.inspection.specs.Opening.{open_shaped, open_of, blank_of}
@@ -44,14 +41,14 @@ C = record { high = 0; low = 1 }
 abbrev value : ℕ → Value
 value k = record { first = k; second = 10 + k }
 
-abbrev at : ℕ → Place
-at i = place.At (record { 0 = i })
+abbrev at : ℕ → Result NodeIndex Refusal
+at i = Ok (record { 0 = i })
 
-abbrev is : Key → ℕ → Entry
-is key k = entry.Is key (value k)
+abbrev is : Key → ℕ → Result (Key × Value) Refusal
+is key k = Ok (key, (value k))
 
-abbrev absent : Entry
-absent = entry.Refused no.Absent
+abbrev absent : Result (Key × Value) Refusal
+absent = Err no.Absent
 
 -- ---- the images, M = 4 and N = 8
 
@@ -87,18 +84,18 @@ twice = insert.insert_image 2 4 once A (value 2)
 
 -- ---- a listing, side after side; true is the back
 
-abbrev steps : List Bool → List ℕ → Position → List Entry
+abbrev steps : List Bool → List ℕ → Position → List (Result (Key × Value) Refusal)
 steps [] ws p = []
 steps (back ∷ sides) ws p = (listing.step_of back 4 8 ws p).entry ∷ steps sides ws (listing.step_of back 4 8 ws p).position
 
-abbrev listed : List Bool → List ℕ → List Entry
+abbrev listed : List Bool → List ℕ → List (Result (Key × Value) Refusal)
 listed sides ws = steps sides ws (made_of 4 8 ws).position
 
 -- ---- the table
 
 pub starred :
     -- Start: bumps and heads 1, all else 0
-    (start_of 4 8 (replicate 140 0) ≡ done.Yes)
+    (start_of 4 8 (replicate 140 0) ≡ Ok tt)
     × (empty ≡ set (set (set (set (replicate 140 0) 6 1) 7 1) (values_at 8 + 2) 1) (values_at 8 + 3) 1)
     × ((header_of 8 empty).nodes ≡ record { size = 0; bump = 1; head = 1 })
     × ((header_of 8 empty).values ≡ record { size = 0; bump = 1; head = 1 })
@@ -121,7 +118,7 @@ pub starred :
     -- front, back, front, back, front: B, A, C, 4, 4
     × (listed (false ∷ true ∷ false ∷ true ∷ false ∷ []) three ≡ is B 2 ∷ is A 1 ∷ is C 3 ∷ absent ∷ absent ∷ [])
     -- Remove A: node size 3, free nodes 2, 3, value head 1
-    × (remove.remove_of 4 8 three A ≡ got.Found (value 1))
+    × (remove.remove_of 4 8 three A ≡ Ok (value 1))
     × ((header_of 8 without).nodes ≡ record { size = 3; bump = 6; head = 2 })
     × ((node_of without 2).left.0 ≡ 3)
     × ((node_of without 3).left.0 ≡ 6)
@@ -132,21 +129,21 @@ pub starred :
     × ((node_of again 1).right.0 ≡ 2)
     -- M = 1: A gives 1, A again refuses 3, old value kept
     × (insert.insert_of 1 2 (start_image 1 2 (replicate (image_length 1 2) 0)) A ≡ at 1)
-    × (insert.insert_of 1 2 full A ≡ place.Refused no.Full)
+    × (insert.insert_of 1 2 full A ≡ Err no.Full)
     × (insert.insert_image 1 2 full A (value 2) ≡ full)
-    × (get.get_of 1 2 full A ≡ got.Found (value 1))
+    × (get.get_of 1 2 full A ≡ Ok (value 1))
     -- M = 2: A twice gives 1 and 1, second value held
     × (insert.insert_of 2 4 (start_image 2 4 (replicate (image_length 2 4) 0)) A ≡ at 1)
     × (insert.insert_of 2 4 once A ≡ at 1)
-    × (get.get_of 2 4 twice A ≡ got.Found (value 2))
+    × (get.get_of 2 4 twice A ≡ Ok (value 2))
 unfolding
     wide_at set_wide zeros_at number_of common common_of bit_of header_at record_at capacity_of width_of counts_of initialized set_counts get_register set_register never_used taken add_counts add_image freed remove_counts remove_image
     header_of front_of spare_of node_of padding_of record_from arena_ok counts_ok header_ok top_ok padding_ok form_ok node_ok root_ok kids_ok live_value free_node free_value visit_of first_of live_of open_shaped open_of blank_of
     registers_set key_set node_set set_node value_set live_record set_value child_of lookup_turn bits_turn turn_at descend from_root started done_image start_image
-    get.live_target get.stop_target get.opened_target get.target_of get.target_got get.get_of get.stop_place get.opened_place get.addr_of
+    get.live_target get.leaf_target stop_leaf get.opened_target get.target_of get.target_got get.get_of get.leaf_place get.opened_place get.addr_of
     insert_plan.taken_node insert_plan.next_node insert_plan.taken_value insert_plan.leaf_tests insert_plan.split_tests insert_plan.stop_plan insert_plan.insert_plan
     insert.leaf_taken insert.copy_index insert.both_taken insert.first_image insert.adopted insert.fork_node insert.forked insert.split_image insert.plan_image insert.plan_place insert.opened_plan insert.insert_of insert.insert_image
-    remove_plan.sibling_of remove_plan.sibling_ok remove_plan.cut_plan remove_plan.leaf_plan remove_plan.stop_plan
+    remove_plan.sibling_of remove_plan.sibling_ok remove_plan.cut_plan remove_plan.leaf_plan remove_plan.reached_plan
     remove.leaf_freed remove.lone_image remove.moved remove.place_freed remove.cut_image remove.plan_image remove.value_gone remove.opened_plan remove.remove_of remove.removed_image
     opened_made made_of listing.open_turn listing.open_to listing.pop_to listing.live_moved listing.leaf_moved listing.opened_moved listing.moved_of listing.opened_step listing.step_of
     empty one two three without again full once twice

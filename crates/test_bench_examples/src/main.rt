@@ -4,22 +4,8 @@
 ghost use Rattle.std.specs.Prelude.{◌≡◌, length};
 
 use keys::{Key, leading_equal};
-use records::{Done, Place, Value, number};
+use records::{Value, answer_number};
 use std::io;
-
-fn answer(a: Done) -> u64 {
-    match a {
-        Done::Yes => 0,
-        Done::Refused(r) => number(r) as u64,
-    }
-}
-
-fn place(a: Place) -> u32 {
-    match a {
-        Place::At(i) => i.0,
-        Place::Refused(r) => 0,
-    }
-}
 
 fn key(high: u64, low: u64) -> Key {
     Key { high, low }
@@ -46,7 +32,7 @@ fn started(img: &mut [u8], count: usize, m: u32, n: u32) -> u64 {
     words::clear(img);
     if count <= 131092 {
         if 4 * count <= img.len() {
-            return answer(lookup::start::start(&mut img[..4 * count], m, n));
+            return answer_number(lookup::start::start(&mut img[..4 * count], m, n)) as u64;
         }
     }
     9
@@ -65,15 +51,13 @@ fn parent(img: &[u8], i: u32) -> u32 {
 // How many nodes lie from node i up to the root.
 fn path(img: &[u8], i: u32) -> u64 {
     let mut at = i;
-    let mut count: u64 = 0;
-    while count < 1000 {
+    for count in 0..1000 {
         if at == 0 {
-            break;
+            return count;
         }
         at = parent(img, at);
-        count += 1;
     }
-    count
+    1000
 }
 
 // B, which is 0, and all 128 powers of two go into a map of 256 values and 512 nodes; the path to B.
@@ -82,13 +66,14 @@ fn deepest(img: &mut [u8]) -> u64 {
         first: 0,
         second: 0,
     };
-    insert::insert(img, 256, 512, key(0, 0), v);
-    let mut k: u32 = 0;
-    while k < 128 {
-        insert::insert(img, 256, 512, power(k), v);
-        k += 1;
+    let _ = insert::insert(img, 256, 512, key(0, 0), v);
+    for k in 0..128 {
+        let _ = insert::insert(img, 256, 512, power(k), v);
     }
-    path(img, place(lookup::get::get_addr(img, 256, 512, key(0, 0))))
+    match lookup::get::get_addr(img, 256, 512, key(0, 0)) {
+        Ok(i) => path(img, i.0),
+        Err(_) => 0,
+    }
 }
 
 // The same on the memory's first 8,204 words, where a map of that size was started.

@@ -6,83 +6,46 @@
 #![tactic(auto)]
 
 use keys::Key;
-use records::{Count, Done, Entry, Got, Place, Value, number};
+use records::{NodeIndex, Refusal, Value, number};
 use std::io::{self, ErrorKind, Read};
 
-#[derive(Clone, Copy)]
+// What a call answers: its number, and the four numbers that come with it.
+#[derive(Clone, Copy, PartialEq, Eq)]
 struct Outcome {
     number: u32,
-    first: u64,
-    second: u64,
-    third: u64,
-    fourth: u64,
+    results: [u64; 4],
 }
 
-fn refused(number: u32) -> Outcome {
-    Outcome {
-        number,
-        first: 0,
-        second: 0,
-        third: 0,
-        fourth: 0,
+impl From<Result<[u64; 4], Refusal>> for Outcome {
+    fn from(answer: Result<[u64; 4], Refusal>) -> Outcome {
+        match answer {
+            Ok(results) => Outcome { number: 0, results },
+            Err(r) => Outcome {
+                number: number(r),
+                results: [0; 4],
+            },
+        }
     }
 }
 
-fn one(first: u64) -> Outcome {
-    Outcome {
-        number: 0,
-        first,
-        second: 0,
-        third: 0,
-        fourth: 0,
-    }
+fn done(a: Result<(), Refusal>) -> Outcome {
+    Outcome::from(a.map(|_| [0; 4]))
 }
 
-fn done(a: Done) -> Outcome {
-    match a {
-        Done::Yes => one(0),
-        Done::Refused(r) => refused(number(r)),
-    }
+fn place(a: Result<NodeIndex, Refusal>) -> Outcome {
+    Outcome::from(a.map(|i| [i.0 as u64, 0, 0, 0]))
 }
 
-fn place(a: Place) -> Outcome {
-    match a {
-        Place::At(i) => one(i.0 as u64),
-        Place::Refused(r) => refused(number(r)),
-    }
+fn count(a: Result<u64, Refusal>) -> Outcome {
+    Outcome::from(a.map(|k| [k, 0, 0, 0]))
 }
 
-fn count(a: Count) -> Outcome {
-    match a {
-        Count::Is(k) => one(k),
-        Count::Refused(r) => refused(number(r)),
-    }
+fn got(a: Result<Value, Refusal>) -> Outcome {
+    Outcome::from(a.map(|v| [v.first, v.second, 0, 0]))
 }
 
-fn got(a: Got) -> Outcome {
-    match a {
-        Got::Found(v) => Outcome {
-            number: 0,
-            first: v.first,
-            second: v.second,
-            third: 0,
-            fourth: 0,
-        },
-        Got::Refused(r) => refused(number(r)),
-    }
-}
-
-fn entry(a: Entry) -> Outcome {
-    match a {
-        Entry::Is(k, v) => Outcome {
-            number: 0,
-            first: k.high,
-            second: k.low,
-            third: v.first,
-            fourth: v.second,
-        },
-        Entry::Refused(r) => refused(number(r)),
-    }
+fn entry(a: Result<(Key, Value), Refusal>) -> Outcome {
+    Outcome::from(a.map(|(k, v)| [k.high, k.low, v.first, v.second]))
 }
 
 // A call that reads.
@@ -95,7 +58,10 @@ fn ask(letter: u8, img: &[u8], m: u32, n: u32, key: Key) -> Outcome {
         b'p' => count(lookup::start::capacity(img, m, n)),
         b'n' => entry(lookup::ends::get_min(img, m, n)),
         b'x' => entry(lookup::ends::get_max(img, m, n)),
-        _ => refused(99),
+        _ => Outcome {
+            number: 99,
+            results: [0; 4],
+        },
     }
 }
 
@@ -117,21 +83,24 @@ fn make(letter: u8, img: &mut [u8], m: u32, n: u32, key: Key, v: Value) -> Outco
 fn checksum(img: &[u8]) -> u64 {
     let mut sum: u64 = 0;
     let mut sums: u64 = 0;
-    let mut k: usize = 0;
-    while k < img.len() / 4 {
-        sum = std::num::wrapping_add_u64(sum, words::word(img, k) as u64);
-        sums = std::num::wrapping_add_u64(sums, sum);
-        k += 1;
+    for k in 0..words::count(img) {
+        sum = sum.wrapping_add(words::word(img, k) as u64);
+        sums = sums.wrapping_add(sum);
     }
-    std::num::wrapping_add_u64(sums, sum)
+    sums.wrapping_add(sum)
 }
 
-fn same(a: Outcome, rec: &[u8]) -> bool {
-    (a.number == words::word(rec, 3))
-        & (a.first == words::wide(rec, 12))
-        & (a.second == words::wide(rec, 14))
-        & (a.third == words::wide(rec, 16))
-        & (a.fourth == words::wide(rec, 18))
+// What a record says was answered.
+fn recorded(rec: &[u8]) -> Outcome {
+    Outcome {
+        number: words::word(rec, 3),
+        results: [
+            words::wide(rec, 12),
+            words::wide(rec, 14),
+            words::wide(rec, 16),
+            words::wide(rec, 18),
+        ],
+    }
 }
 
 // Whether the port agrees with a record.
@@ -147,8 +116,7 @@ fn agrees(rec: &[u8], img: &mut [u8]) -> bool {
         first: words::wide(rec, 8),
         second: words::wide(rec, 10),
     };
-    let answer = make(letter, img, m, n, key, v);
-    same(answer, rec) & (checksum(img) == words::wide(rec, 20))
+    (make(letter, img, m, n, key, v) == recorded(rec)) & (checksum(img) == words::wide(rec, 20))
 }
 
 // How many bytes of an image of 308 words a map of capacity M over N nodes takes; none where it is larger.
@@ -185,20 +153,18 @@ fn main(rt: HostRuntime) -> io::Result<()> {
     let rec: &mut [u8] = &mut read;
     let mut agreed: u64 = 0;
     let mut differed: u64 = 0;
-    let mut k: u64 = 0;
-    while k < 100000 {
+    for _ in 0..100000 {
         if !read_record(&mut input, rec)? {
             break;
         }
         let end = size(words::word(rec, 1), words::word(rec, 2));
         if end <= img.len() {
             if agrees(rec, &mut img[..end]) {
-                agreed = std::num::wrapping_add_u64(agreed, 1);
+                agreed = agreed.wrapping_add(1);
             } else {
-                differed = std::num::wrapping_add_u64(differed, 1);
+                differed = differed.wrapping_add(1);
             }
         }
-        k += 1;
     }
     say(&rt, agreed, differed)
 }

@@ -1,17 +1,35 @@
 -- `board::give` meets its contract. Assumes nothing.
-use borrow.Author.Tests.{eq-eqb, ne_eqb}
-use Rattle.records.specs.Numbers.{got_number, got_value}
+use Rattle.std.specs.Prelude.{◌≡◌, refl, true, false, not, eqb}
+use Rattle.std.proofs.Common.{sym, ◌∙◌}
+use Rattle.std.proofs.lemmas.Bool.{not-true, not-false}
+use Rattle.records.specs.declared.Refusal.{Refusal}
+use Rattle.records.specs.declared.Refusal.TheVariants as no
+use Rattle.records.specs.Numbers.{answer_number, got_value, refusal_number}
 use Rattle.board.specs.Output.{output_after}
+use Rattle.board.proofs.give.Goals.{then-ne, else-ne}
 use Rattle.board.proofs.give.Goals as goal
 
-pub returns-in-Found : goal.returns-in-Found
-unfolding got_number got_value output_after
-returns-in-Found c = record { answer = simp c.in-Found.is; output = simp (c.in-Found.is, c.put_value.ensures) }
+-- the one refusal after which no byte is touched has the number 1
+is_shape : (r : Refusal) → denote.Enum.Bare.sameb Rattle.records.specs.contracts.Refusal.the_type r no.Shape ≡ eqb (refusal_number r) 1
+unfolding refusal_number
+is_shape no.Shape = refl
+is_shape no.Damaged = refl
+is_shape no.Full = refl
+is_shape no.Absent = refl
+is_shape no.NotBlank = refl
+is_shape no.Cursor = refl
 
-pub returns-then-refused-ne1 : goal.returns-then-refused-ne1
-unfolding got_number got_value output_after
-returns-then-refused-ne1 c = record { answer = simp (c.in-Refused.is, c.number-refused.ensures); output = simp c.in-Refused.is (simp (c.put_value-then-refused-ne1.ensures, ← c.number-refused.ensures, ne_eqb _ _ c.if-refused-ne1.true)) }
+pub returns-in-Ok : goal.returns-in-Ok
+unfolding answer_number got_value output_after
+returns-in-Ok c = record { answer = simp c.in-Ok.is; output = simp (c.in-Ok.is, c.put_value.ensures) }
 
-pub returns-else-refused-ne1 : goal.returns-else-refused-ne1
-unfolding got_number got_value output_after
-returns-else-refused-ne1 c = record { answer = simp (c.in-Refused.is, c.number-refused.ensures); output = simp c.in-Refused.is (simp (← c.number-refused.ensures, eq-eqb _ _ c.if-refused-ne1.false)) }
+pub returns-after-ne : goal.returns-after-ne
+unfolding answer_number got_value output_after
+returns-after-ne c = record {
+  answer = simp (c.in-Err.is, c.number.ensures);
+  output =
+    elim c.if-ne.branch [
+      | then-ne w ↦ w.out-is ∙ w.put_value-then-ne.ensures ∙ simp (c.in-Err.is, ← is_shape c.in-Err.r, not-true _ (sym c.ne.ensures ∙ w.if-ne.true))
+      | else-ne w ↦ w.out-is ∙ simp (c.in-Err.is, ← is_shape c.in-Err.r, not-false _ (sym c.ne.ensures ∙ w.if-ne.false))
+    ];
+}

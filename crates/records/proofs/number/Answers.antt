@@ -1,27 +1,18 @@
 -- `records::number` meets its contract. Assumes nothing.
+use Rattle.std.specs.Prelude.{◌≡◌, refl, ◌+◌}
+use Rattle.records.specs.declared.Refusal.{Refusal}
+use Rattle.records.specs.declared.Refusal.TheVariants as no
 use Rattle.records.specs.Numbers.{refusal_number}
 use Rattle.records.proofs.number.Goals as goal
 
-pub returns-in-Shape : goal.returns-in-Shape
+pub returns : goal.returns
 unfolding refusal_number
-returns-in-Shape c = simp c.in-Shape.is
-
-pub returns-in-Damaged : goal.returns-in-Damaged
-unfolding refusal_number
-returns-in-Damaged c = simp c.in-Damaged.is
-
-pub returns-in-Full : goal.returns-in-Full
-unfolding refusal_number
-returns-in-Full c = simp c.in-Full.is
-
-pub returns-in-Absent : goal.returns-in-Absent
-unfolding refusal_number
-returns-in-Absent c = simp c.in-Absent.is
-
-pub returns-in-NotBlank : goal.returns-in-NotBlank
-unfolding refusal_number
-returns-in-NotBlank c = simp c.in-NotBlank.is
-
-pub returns-in-Cursor : goal.returns-in-Cursor
-unfolding refusal_number
-returns-in-Cursor c = simp c.in-Cursor.is
+returns c = go c.args.r
+  where
+    go : (r : Refusal) → denote.Enum.Declared.tag_of Rattle.records.specs.contracts.Refusal.the_type r + 1 ≡ refusal_number r
+    go no.Shape = refl
+    go no.Damaged = refl
+    go no.Full = refl
+    go no.Absent = refl
+    go no.NotBlank = refl
+    go no.Cursor = refl

@@ -1,19 +1,22 @@
 -- `insert::tests::split_tests` meets its contract. Assumes nothing.
 use mathlib.Core.Path.{sym, ◌∙◌}
 use native.Mathlib.Omega.{arith}
-use Rattle.words.specs.Tests.{and_l}
 use Rattle.insert.specs.Plan.{leaf_tests, split_tests}
-use Rattle.insert.specs.Ready.{next_some}
+use Rattle.insert.specs.Ready.{next_some, behind_some, behind_none}
 use borrow.Author.Rules.{rules}
 use Rattle.insert.proofs.tests.split_tests.Goals as goal
 
 pub taken_node-requires : goal.taken_node-requires
-taken_node-requires c = (omega (arith, c.head_node-head.ensures.1, next_some _ _ _ _ c.requires.most (sym c.head_node-head.ensures.0 ∙ and_l _ _ c.if-head-taken_value.true)), search rules)
+taken_node-requires c =
+    let some = behind_some _ _ _ _ (sym c.behind_head.ensures ∙ c.in-Some.is) in
+    (omega (arith, some.1, next_some _ _ _ _ c.requires.most some.0), search rules)
 
-pub returns-then-head-taken_value : goal.returns-then-head-taken_value
+pub returns-in-Some : goal.returns-in-Some
 unfolding split_tests leaf_tests
-returns-then-head-taken_value c = simp (← c.head_node-head.ensures.0, ← c.taken_value.ensures, c.if-head-taken_value.true, ← c.head_node-head.ensures.1, c.taken_node.ensures)
+returns-in-Some c =
+    let some = behind_some _ _ _ _ (sym c.behind_head.ensures ∙ c.in-Some.is) in
+    simp (some.0, ← some.1, c.taken_value.ensures, c.taken_node.ensures)
 
-pub returns : goal.returns
+pub returns-in-None : goal.returns-in-None
 unfolding split_tests leaf_tests
-returns c = simp (← c.head_node-head.ensures.0, ← c.taken_value.ensures, c.if-head-taken_value.false)
+returns-in-None c = simp (behind_none _ _ _ (sym c.behind_head.ensures ∙ c.in-None.is))

@@ -3,13 +3,13 @@ use borrow.Author.Tests.{eq-eqb, ne_eqb}
 use Rattle.listing.specs.Ends.{given_of}
 use Rattle.listing.proofs.open.given.Goals as goal
 
-pub returns-then-j-other : goal.returns-then-j-other
+pub returns-then-x-other : goal.returns-then-x-other
 unfolding given_of
-returns-then-j-other c = simp (c.in-Leaf.is, eq-eqb _ _ c.if-j-other.true)
+returns-then-x-other c = simp (c.in-Leaf.is, eq-eqb _ _ c.if-x-other.true)
 
-pub returns-else-j-other : goal.returns-else-j-other
+pub returns-else-x-other : goal.returns-else-x-other
 unfolding given_of
-returns-else-j-other c = simp (c.in-Leaf.is, ne_eqb _ _ c.if-j-other.false, c.live_given.ensures, c.live_value.ensures)
+returns-else-x-other c = simp (c.in-Leaf.is, ne_eqb _ _ c.if-x-other.false, c.live_given.ensures, c.live_value.ensures)
 
 pub returns-in-Inner : goal.returns-in-Inner
 unfolding given_of

@@ -1,15 +1,20 @@
 -- `listing::open::open_turn` meets its contract. Assumes nothing.
 use borrow.Author.Tests.{le-leb, lt-leb, lt-ltb, le-ltb}
-use Rattle.listing.specs.Step.{open_turn}
+use Rattle.std.proofs.Common.{◌∙◌}
+use Rattle.listing.specs.Step.{far_child, open_turn}
 use Rattle.listing.proofs.open.open_turn.Goals as goal
 
 pub returns-then-node_ok : goal.returns-then-node_ok
 unfolding open_turn
-returns-then-node_ok c = simp (c.in-Inner.is, le-leb _ _ c.if-count-le129.true, lt-ltb _ _ c.if-x-lt128.true, ← c.far-wait.ensures, ← c.node_ok.ensures, c.if-node_ok.true) (cc)
+returns-then-node_ok c =
+    let wait = c.child-wait.ensures ∙ far_child c.args.back c.in-Inner.x in
+    simp (c.in-Inner.is, le-leb _ _ c.if-count-le129.true, lt-ltb _ _ c.if-x-lt128.true, ← wait, ← c.node_ok.ensures, c.if-node_ok.true) (cc)
 
 pub returns-else-node_ok : goal.returns-else-node_ok
 unfolding open_turn
-returns-else-node_ok c = simp (c.in-Inner.is, le-leb _ _ c.if-count-le129.true, lt-ltb _ _ c.if-x-lt128.true) (simp (← c.far-wait.ensures, ← c.node_ok.ensures, c.if-node_ok.false))
+returns-else-node_ok c =
+    let wait = c.child-wait.ensures ∙ far_child c.args.back c.in-Inner.x in
+    simp (c.in-Inner.is, le-leb _ _ c.if-count-le129.true, lt-ltb _ _ c.if-x-lt128.true) (simp (← wait, ← c.node_ok.ensures, c.if-node_ok.false))
 
 pub returns-else-x-lt128 : goal.returns-else-x-lt128
 unfolding open_turn

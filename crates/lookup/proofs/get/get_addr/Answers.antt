@@ -1,16 +1,10 @@
--- `get::get_addr` meets its contract. Assumes nothing.
+-- `lookup::get::get_addr` meets its contract. Assumes nothing.
 use mathlib.Core.Path.{sym, ◌∙◌}
+use Rattle.std.proofs.Common.{rules}
 use Rattle.inspection.specs.Room.{room, opened_words}
-use Rattle.lookup.specs.Get.{addr_of, opened_place}
+use Rattle.lookup.specs.Get.{addr_of, opened_place, leaf_place}
 use Rattle.lookup.proofs.get.get_addr.Goals as goal
 
-pub find-requires : goal.find-requires
-find-requires c = simp (← opened_words _ _ _ _ (sym c.open_image.ensures ∙ c.in-Good.is)) (room _ _ _ _ (sym c.open_image.ensures ∙ c.in-Good.is))
-
-pub returns-in-Good : goal.returns-in-Good
-unfolding addr_of opened_place
-returns-in-Good c = simp (← c.open_image.ensures, c.in-Good.is) (simp (opened_words _ _ _ _ (sym c.open_image.ensures ∙ c.in-Good.is), c.stop_place.ensures, c.find.ensures))
-
-pub returns-in-Shut : goal.returns-in-Shut
-unfolding addr_of opened_place
-returns-in-Shut c = simp (← c.open_image.ensures, c.in-Shut.is)
+pub returns-in_err-i : goal.returns-in_err-i
+unfolding addr_of opened_place leaf_place
+returns-in_err-i c = simp (← c.open_image.ensures, c.in_ok-h.was) (simp (opened_words _ _ _ _ (sym c.open_image.ensures ∙ c.in_ok-h.was), ← c.find.ensures, ← c.leaf.ensures, c.in_err-i.was) (search rules))
