@@ -117,6 +117,7 @@ pub fn value_record(img: &[u8], n: u32, j: ValueIndex) -> ValueRecord
     value_record_past(img, b)
 }
 
+// The same where a part of it may lie past the end: each word is tested by itself, which a record that lies inside is spared.
 #[tactic(auto, unfolding(crate::specs::Records::record_from))]
 fn value_record_past(img: &[u8], at: usize) -> ValueRecord
     requires { at < 1099511627776 }

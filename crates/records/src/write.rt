@@ -9,7 +9,7 @@ use crate::{Node, NodeIndex, Value, ValueIndex, ValueRecord};
 use keys::Key;
 use node_allocator::{Arena, is_inside, node_at, value_at};
 
-// Four words from a place on.
+// Four words from a place on: four lines, where a loop over an array of them would want an invariant.
 #[tactic(auto, unfolding(crate::specs::Writes::registers_set))]
 fn set_registers(img: &mut [u8], at: usize, a: u32, b: u32, c: u32, d: u32)
     requires { 4 * at + 16 ≤ length img.old }
