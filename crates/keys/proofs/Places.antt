@@ -3,11 +3,11 @@ use mathlib.Core.Path.{◌≡◌}
 use mathlib.Core.Bool.{not}
 use Prim.Native.Nat.{ℕ, ◌+◌, ◌-◌, ◌*◌, ◌/◌, ◌%◌, ◌^◌, ◌<◌, ◌≤◌}
 use native.Mathlib.Omega.{arith}
-use native.Mathlib.Decide.{ℕ_discrete, dec_lt}
+use native.Mathlib.Decide.{dec_lt}
 use lib.Bits.{bit_xor, bit_and, xor_add_and, and_mask}
 use lib.Count.{count_leading_zeros, leading_length}
 use lib.Dec.{ltb, leb}
-use lib.Pow.{pow-lt, pow-add, shr_lt, shr_mono, shl-shr}
+use lib.Pow.{pow_mono, pow-add, shr_lt, shr_mono, shl-shr}
 use borrow.Author.Tests.{lt-ltb, le-ltb, le-leb, lt-leb}
 
 pub place_right : (p : ℕ) → p < 64 → bit_xor p 63 ≡ 63 - p
@@ -15,22 +15,15 @@ place_right p l =
     let mask : bit_and p 63 ≡ p % 64 = and_mask p 6 in
     omega (arith, xor_add_and p 63, mask)
 
-pow_le : (i j : ℕ) → i ≤ j → 2 ^ i ≤ 2 ^ j
-pow_le i j l = go (ℕ_discrete i j)
-  where
-    go : Dec (i ≡ j) → 2 ^ i ≤ 2 ^ j
-    go (yes e) = rw e (omega arith)
-    go (no d) = let s : 2 ^ i < 2 ^ j = pow-lt (omega (arith, d)) in omega arith
-
 few : (x k m : ℕ) → x < 2 ^ m → m ≤ 1 + k → x / 2 ^ k ≤ 1
 few x k m f l =
-    let p = pow_le m (1 + k) l in
+    let p = pow_mono l in
     let s : x / 2 ^ k < 2 ^ 1 = shr_lt 1 k (omega arith) in
     omega arith
 
 many : (x k m : ℕ) → 2 ^ m ≤ 2 * x + 1 → 2 + k ≤ m → 1 < x / 2 ^ k
 many x k m f l =
-    let p = pow_le (2 + k) m l in
+    let p = pow_mono l in
     let q : 2 ^ (2 + k) ≡ 4 * 2 ^ k = pow-add 2 2 k in
     let c : 2 * 2 ^ k ≤ x = omega arith in
     let s : 2 * 2 ^ k / 2 ^ k ≤ x / 2 ^ k = shr_mono k c in

@@ -7,6 +7,8 @@ use native.Mathlib.Omega.{arith}
 use lib.Bits.{bit_xor, xor_lt, xor_self}
 use lib.Count.{count_leading_zeros, leading_of_zero}
 use lib.Dec.{ltb, leb, eqb}
+use Rattle.std.specs.Prelude.{Some}
+use Rattle.std.specs.Ordering.{is_some_and, is_lt, partial_ordering_then, nat_cmp}
 use borrow.Author.Tests.{lt-ltb, le-ltb, eq-eqb, ne_eqb}
 use Rattle.keys.specs.declared.Key.{Key}
 use Rattle.keys.specs.declared.Way.{Way}
@@ -30,6 +32,18 @@ pub words_less : {a b : Key} → Fits a → Fits b
     → ltb (number_of a) (number_of b) ≡ cond (eqb a.high b.high) (ltb a.low b.low) (ltb a.high b.high)
 unfolding number_of
 words_less {a} {b} f g = halves_less a.high a.low b.high b.low f.low_fits g.low_fits
+
+-- what a comparison of pairs of words answers: high words first
+pub ordered_less : (q s r t : ℕ) → is_some_and is_lt (partial_ordering_then (Some (nat_cmp q s)) (Some (nat_cmp r t))) ≡ cond (eqb q s) (ltb r t) (ltb q s)
+ordered_less q s r t = go (dec_lt q s) (ℕ_discrete q s) (dec_lt r t) (ℕ_discrete r t)
+  where
+    go : Dec (q < s) → Dec (q ≡ s) → Dec (r < t) → Dec (r ≡ t)
+        → is_some_and is_lt (partial_ordering_then (Some (nat_cmp q s)) (Some (nat_cmp r t))) ≡ cond (eqb q s) (ltb r t) (ltb q s)
+    go (yes l) _ _ _ = simp (lt-ltb q s l, ne_eqb q s (λ e. absurd (omega arith)))
+    go (no n) (no d) _ _ = simp (le-ltb q s (omega (arith, n)), ne_eqb q s d)
+    go (no n) (yes e) (yes l) _ = simp (le-ltb q s (omega (arith, n)), eq-eqb q s e, lt-ltb r t l)
+    go (no n) (yes e) (no m) (yes h) = simp (le-ltb q s (omega (arith, n)), eq-eqb q s e, le-ltb r t (omega (arith, m)), eq-eqb r t h)
+    go (no n) (yes e) (no m) (no d) = simp (le-ltb q s (omega (arith, n)), eq-eqb q s e, le-ltb r t (omega (arith, m)), ne_eqb r t d)
 
 pub words_same : {a b : Key} → Fits a → Fits b → eqb (number_of a) (number_of b) ≡ eqb a.high b.high && eqb a.low b.low
 unfolding number_of

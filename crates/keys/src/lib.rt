@@ -3,19 +3,19 @@
 #![tactic(auto)]
 
 ghost use Rattle.std.specs.Prelude.{◌≡◌, ltb, eqb};
-ghost use Rattle.std.specs.Int.Count.{count_leading_zeros};
 ghost use Rattle.keys.specs.Common.{common, bit_of};
 ghost use Rattle.keys.specs.Ways.{way_to, way_of};
 ghost use Rattle.keys.specs.Number.{number_of};
 
-#[derive(Clone, Copy)]
+// Keys are compared by their high words first, which is the order of their numbers.
+#[derive(Clone, Copy, PartialEq, Eq, PartialOrd, Ord)]
 pub struct Key {
     pub high: u64,
     pub low: u64,
 }
 
 // Where a key goes at a prefix: to the side of its next bit, or it has another prefix.
-#[derive(Clone, Copy)]
+#[derive(Clone, Copy, PartialEq, Eq)]
 pub enum Way {
     Left,
     Right,
@@ -23,17 +23,19 @@ pub enum Way {
 }
 
 // The number of leading equal bits of two keys: 0 to 128, and 128 for equal keys.
+#[tactic(auto, using(crate::proofs::Words::words_common))]
 pub fn leading_equal(a: Key, b: Key) -> u64
     ensures { result ≡ common (number_of a) (number_of b) }
 {
     if a.high == b.high {
-        64 + leading_zeros(a.low ^ b.low)
+        64 + u64::from((a.low ^ b.low).leading_zeros())
     } else {
-        leading_zeros(a.high ^ b.high)
+        u64::from((a.high ^ b.high).leading_zeros())
     }
 }
 
 // Whether the bit at place p is 1. Places end at 127: past them there is none, and the answer is false.
+#[tactic(auto, using(crate::proofs::Words::words_bit), unfolding(crate::specs::Common::bit_of))]
 pub fn bit(k: Key, p: u64) -> bool
     ensures { result ≡ bit_of (number_of k) p }
 {
@@ -50,14 +52,12 @@ pub fn bit(k: Key, p: u64) -> bool
 fn side(one: bool) -> Way
     ensures { result ≡ way_to one }
 {
-    if one {
-        return Way::Right;
-    }
-    Way::Left
+    if one { Way::Right } else { Way::Left }
 }
 
 // Where key a goes at the first p bits of key b. Of p below 64 the high words tell; `place` is 63 - p, the bit's place
 // from the right.
+#[tactic(auto, using(crate::proofs::Words::words_way, crate::proofs::Places::place_right), unfolding(crate::specs::Ways::way_of))]
 pub fn goes(a: Key, b: Key, p: u64) -> Way
     ensures { result ≡ way_of (number_of a) (number_of b) p }
 {
@@ -75,26 +75,17 @@ pub fn goes(a: Key, b: Key, p: u64) -> Way
 }
 
 // Whether a stands before b in the ascending order of keys.
+#[tactic(auto, using(crate::proofs::Words::words_less, crate::proofs::Words::ordered_less))]
 pub fn less(a: Key, b: Key) -> bool
     ensures { result ≡ ltb (number_of a) (number_of b) }
 {
-    if a.high == b.high {
-        a.low < b.low
-    } else {
-        a.high < b.high
-    }
+    a < b
 }
 
 // Whether a and b are one key.
+#[tactic(auto, using(crate::proofs::Words::words_same))]
 pub fn same(a: Key, b: Key) -> bool
     ensures { result ≡ eqb (number_of a) (number_of b) }
 {
-    (a.high == b.high) & (a.low == b.low)
-}
-
-// How many zeros stand before the first 1 of a word: 64 where it has none.
-fn leading_zeros(word: u64) -> u64
-    ensures { result ≡ count_leading_zeros 64 word }
-{
-    u64::leading_zeros(word) as u64
+    a == b
 }

@@ -12,8 +12,6 @@ ghost use Rattle.node_allocator.specs.Layout.{node_at, value_at, values_at, head
 ghost use Rattle.node_allocator.specs.Steps.{counts_of, set_counts, initialized, get_register, set_register, clear_register, connected, disconnected};
 ghost use Rattle.node_allocator.specs.Steps.{taken, add_counts, add_image, freed, remove_counts, remove_image, never_used, link_ok};
 
-use std::num::{wrapping_add_u32, wrapping_add_u64};
-
 // The two arenas of an image: its nodes, and behind them its values.
 #[derive(Clone, Copy)]
 pub enum Arena {
@@ -44,8 +42,7 @@ pub struct Counts {
 pub fn node_at(i: u32) -> usize
     ensures { (result ≡ node_at i) × (result < 68719476736) }
 {
-    let end = 12 * (i as usize);
-    if end < 4 { 0 } else { end - 4 }
+    (12 * (i as usize)).saturating_sub(4)
 }
 
 // The first word of the values' header, behind `n` nodes.
@@ -63,57 +60,53 @@ pub fn value_at(n: u32, j: u32) -> usize
 }
 
 // The first of the four header words.
+#[tactic(auto, unfolding(crate::specs::Layout::header_at))]
 fn header_at(a: Arena) -> usize
     ensures { (result ≡ header_at a) × (result < 68719476736) }
 {
     match a {
-        Arena::Nodes { nodes: _ } => 4,
-        Arena::Values { nodes, values: _ } => values_at(nodes),
+        Arena::Nodes { .. } => 4,
+        Arena::Values { nodes, .. } => values_at(nodes),
     }
 }
 
 // The first word of record `i`.
+#[tactic(auto, unfolding(crate::specs::Layout::record_at))]
 pub fn record_at(a: Arena, i: u32) -> usize
     ensures { (result ≡ record_at a i) × (result < 137438953472) }
 {
     match a {
-        Arena::Nodes { nodes: _ } => node_at(i),
-        Arena::Values { nodes, values: _ } => value_at(nodes, i),
+        Arena::Nodes { .. } => node_at(i),
+        Arena::Values { nodes, .. } => value_at(nodes, i),
     }
 }
 
 // How many records an arena has.
+#[tactic(auto, unfolding(crate::specs::Layout::capacity_of))]
 pub fn capacity(a: Arena) -> u32
     ensures { result ≡ capacity_of a }
 {
     match a {
         Arena::Nodes { nodes } => nodes,
-        Arena::Values { nodes: _, values } => values,
+        Arena::Values { values, .. } => values,
     }
 }
 
 // How many words a record has.
+#[tactic(auto, unfolding(crate::specs::Layout::width_of))]
 pub fn width(a: Arena) -> usize
     ensures { result ≡ width_of a }
 {
     match a {
-        Arena::Nodes { nodes: _ } => 12,
-        Arena::Values {
-            nodes: _,
-            values: _,
-        } => 8,
+        Arena::Nodes { .. } => 12,
+        Arena::Values { .. } => 8,
     }
 }
 
 fn place_of(f: Register) -> usize
     ensures { (result ≡ register_of f) × (result < 4) }
 {
-    match f {
-        Register::Left => 0,
-        Register::Right => 1,
-        Register::Parent => 2,
-        Register::Value => 3,
-    }
+    f as usize
 }
 
 // Whether an index names a record of the arena.
@@ -126,6 +119,7 @@ pub fn is_inside(a: Arena, i: u32) -> bool
 // ---- reading
 
 // The header: size, bump and head.
+#[tactic(auto, unfolding(crate::specs::Steps::counts_of))]
 pub fn header(img: &[u8], a: Arena) -> Counts
     ensures { result ≡ counts_of a (words img.now) }
 {
@@ -138,6 +132,7 @@ pub fn header(img: &[u8], a: Arena) -> Counts
 }
 
 // A register of a record; 0 where the index names none.
+#[tactic(auto, unfolding(crate::specs::Steps::get_register))]
 pub fn get_register(img: &[u8], a: Arena, i: u32, f: Register) -> u32
     ensures { result ≡ get_register a (words img.now) i f }
 {
@@ -148,18 +143,19 @@ pub fn get_register(img: &[u8], a: Arena, i: u32, f: Register) -> u32
 }
 
 // Whether every word of a record is 0, as those of a record that was never used are. The caller knows that it lies inside.
+#[tactic(auto, using(crate::specs::Room::node_unused, crate::specs::Room::value_unused), unfolding(crate::specs::Layout::record_at, crate::specs::Layout::width_of))]
 pub fn never_used(img: &[u8], a: Arena, i: u32) -> bool
     requires { record_at a i + width_of a ≤ length (words img.now) }
     ensures { result ≡ never_used a (words img.now) i }
 {
     match a {
-        Arena::Nodes { nodes: _ } => {
+        Arena::Nodes { .. } => {
             let at = node_at(i);
             words::four_zeros(img, at)
                 & words::four_zeros(img, at + 4)
                 & words::four_zeros(img, at + 8)
         }
-        Arena::Values { nodes, values: _ } => {
+        Arena::Values { nodes, .. } => {
             let at = value_at(nodes, i);
             words::four_zeros(img, at) & words::four_zeros(img, at + 4)
         }
@@ -175,6 +171,7 @@ pub fn link_ok(bump: u32, i: u32, next: u32) -> bool
 
 // ---- registers
 
+#[tactic(auto, unfolding(crate::specs::Steps::set_register))]
 pub fn set_register(img: &mut [u8], a: Arena, i: u32, v: u32, f: Register)
     ensures { words img.new ≡ set_register a (words img.old) i v f }
 {
@@ -190,6 +187,7 @@ pub fn clear_register(img: &mut [u8], a: Arena, i: u32, f: Register)
 }
 
 // Register `f` of `i` names `j`, and register `g` of `j` names `i`.
+#[tactic(auto, unfolding(crate::specs::Steps::connected))]
 pub fn connect(img: &mut [u8], a: Arena, i: u32, j: u32, f: Register, g: Register)
     ensures { words img.new ≡ connected a (words img.old) i j f g }
 {
@@ -198,6 +196,7 @@ pub fn connect(img: &mut [u8], a: Arena, i: u32, j: u32, f: Register, g: Registe
 }
 
 // Register `f` of `i` and register `g` of `j` are cleared.
+#[tactic(auto, unfolding(crate::specs::Steps::disconnected))]
 pub fn disconnect(img: &mut [u8], a: Arena, i: u32, j: u32, f: Register, g: Register)
     ensures { words img.new ≡ disconnected a (words img.old) i j f g }
 {
@@ -208,6 +207,7 @@ pub fn disconnect(img: &mut [u8], a: Arena, i: u32, j: u32, f: Register, g: Regi
 // ---- the header
 
 // Size, bump and head are these.
+#[tactic(auto, unfolding(crate::specs::Steps::set_counts))]
 fn set_counts(img: &mut [u8], a: Arena, c: Counts)
     ensures { words img.new ≡ set_counts a (words img.old) c }
 {
@@ -218,6 +218,7 @@ fn set_counts(img: &mut [u8], a: Arena, c: Counts)
 }
 
 // Makes an empty arena of blank memory: bump and head are 1.
+#[tactic(auto, unfolding(crate::specs::Steps::initialized))]
 pub fn initialize(img: &mut [u8], a: Arena)
     ensures { words img.new ≡ initialized a (words img.old) }
 {
@@ -236,9 +237,9 @@ pub fn initialize(img: &mut [u8], a: Arena)
 fn take(c: Counts, next: u32) -> Counts
     ensures { result ≡ taken c next }
 {
-    let size = wrapping_add_u64(c.size, 1);
+    let size = c.size.wrapping_add(1);
     if c.head == c.bump {
-        let up = wrapping_add_u32(c.head, 1);
+        let up = c.head.wrapping_add(1);
         return Counts {
             size,
             bump: up,
@@ -247,13 +248,14 @@ fn take(c: Counts, next: u32) -> Counts
     }
     Counts {
         size,
-        bump: c.bump,
         head: next,
+        ..c
     }
 }
 
 // Takes the head's record, last freed first, and answers the header afterwards; the header before was `c`, so that the record is `c.head`. Where
 // the head names none, as in a full buffer, nothing changes. What the record is to hold is the caller's to write.
+#[tactic(auto, unfolding(crate::specs::Steps::add_counts, crate::specs::Steps::add_image))]
 pub fn add_node(img: &mut [u8], a: Arena, c: Counts) -> Counts
     ensures counts { result ≡ add_counts a (words img.old) c }
     ensures image { words img.new ≡ add_image a (words img.old) c }
@@ -268,18 +270,20 @@ pub fn add_node(img: &mut [u8], a: Arena, c: Counts) -> Counts
 }
 
 // The counts after record `i` is freed.
+#[tactic(auto, unfolding(crate::specs::Steps::freed))]
 fn free(c: Counts, i: u32) -> Counts
     ensures { result ≡ freed c i }
 {
     Counts {
-        size: wrapping_add_u64(c.size, 18446744073709551615),
-        bump: c.bump,
+        size: c.size.wrapping_sub(1),
         head: i,
+        ..c
     }
 }
 
 // Puts record `i` at the front of the chain and answers the header afterwards; the header before was `c`. Nothing changes where `i` names none. The
 // record's other words stay as they are.
+#[tactic(auto, unfolding(crate::specs::Steps::remove_counts, crate::specs::Steps::remove_image))]
 pub fn remove_node(img: &mut [u8], a: Arena, i: u32, c: Counts) -> Counts
     ensures counts { result ≡ remove_counts a c i }
     ensures image { words img.new ≡ remove_image a (words img.old) i c }

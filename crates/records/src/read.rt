@@ -8,6 +8,7 @@ use crate::{Header, Node, NodeIndex, Value, ValueIndex, ValueRecord};
 use keys::Key;
 use node_allocator::{Counts, node_at, value_at, values_at};
 
+#[tactic(auto, using(words::specs::Words::words_length))]
 fn key_in(img: &[u8], at: usize) -> Key
     requires { at + 4 ≤ length (words img.now) }
     ensures { result ≡ key_at (words img.now) at }
@@ -18,6 +19,7 @@ fn key_in(img: &[u8], at: usize) -> Key
     }
 }
 
+#[tactic(auto, using(words::specs::Words::words_length))]
 fn counts_in(img: &[u8], at: usize) -> Counts
     requires { at + 4 ≤ length (words img.now) }
     ensures { result ≡ counts_at (words img.now) at }
@@ -30,6 +32,7 @@ fn counts_in(img: &[u8], at: usize) -> Counts
 }
 
 // The header of an image that is known to hold `n` nodes.
+#[tactic(auto, unfolding(crate::specs::Records::header_of))]
 pub fn header_in(img: &[u8], n: u32) -> Header
     requires { 12 * n + 12 ≤ length (words img.now) }
     ensures { result ≡ header_of n (words img.now) }
@@ -42,6 +45,7 @@ pub fn header_in(img: &[u8], n: u32) -> Header
 }
 
 // The header's padding in words 0 and 1.
+#[tactic(auto, unfolding(crate::specs::Records::front_of))]
 pub fn front_in(img: &[u8]) -> u64
     requires { 12 ≤ length (words img.now) }
     ensures { result ≡ front_of (words img.now) }
@@ -50,6 +54,7 @@ pub fn front_in(img: &[u8]) -> u64
 }
 
 // The header's padding in word 3.
+#[tactic(auto, unfolding(crate::specs::Records::spare_of))]
 pub fn spare_in(img: &[u8]) -> u32
     requires { 12 ≤ length (words img.now) }
     ensures { result ≡ spare_of (words img.now) }
@@ -58,6 +63,7 @@ pub fn spare_in(img: &[u8]) -> u32
 }
 
 // A node that is known to lie inside.
+#[tactic(auto, unfolding(crate::specs::Records::node_of))]
 pub fn node_in(img: &[u8], i: NodeIndex) -> Node
     requires { (1 ≤ i.0) × (12 * i.0 + 8 ≤ length (words img.now)) }
     ensures { result ≡ node_of (words img.now) i.0 }
@@ -74,6 +80,7 @@ pub fn node_in(img: &[u8], i: NodeIndex) -> Node
 }
 
 // The padding of a node that is known to lie inside.
+#[tactic(auto, unfolding(crate::specs::Records::padding_of))]
 pub fn padding_in(img: &[u8], i: NodeIndex) -> u64
     requires { (1 ≤ i.0) × (12 * i.0 + 8 ≤ length (words img.now)) }
     ensures { result ≡ padding_of (words img.now) i.0 }
@@ -81,6 +88,7 @@ pub fn padding_in(img: &[u8], i: NodeIndex) -> u64
     words::wide_in(img, node_at(i.0) + 10)
 }
 
+#[tactic(auto, using(words::specs::Words::words_length))]
 fn value_in(img: &[u8], at: usize) -> Value
     requires { at + 4 ≤ length (words img.now) }
     ensures { result ≡ value_of (words img.now) at }
@@ -92,6 +100,7 @@ fn value_in(img: &[u8], at: usize) -> Value
 }
 
 // A value record, with one test for all its words; past the end each is 0.
+#[tactic(auto, using(words::specs::Words::words_length), unfolding(crate::specs::Records::record_from))]
 pub fn value_record(img: &[u8], n: u32, j: ValueIndex) -> ValueRecord
     ensures { result ≡ value_record_of n (words img.now) j.0 }
 {
@@ -108,20 +117,20 @@ pub fn value_record(img: &[u8], n: u32, j: ValueIndex) -> ValueRecord
     value_record_past(img, b)
 }
 
+// The same where a part of it may lie past the end: each word is tested by itself, which a record that lies inside is spared.
+#[tactic(auto, unfolding(crate::specs::Records::record_from))]
 fn value_record_past(img: &[u8], at: usize) -> ValueRecord
     requires { at < 1099511627776 }
     ensures { result ≡ record_from (words img.now) at }
 {
-    let v = at + 4;
-    let value = Value {
-        first: words::wide(img, v),
-        second: words::wide(img, v + 2),
-    };
     ValueRecord {
         register0: words::word(img, at),
         register1: words::word(img, at + 1),
         register2: words::word(img, at + 2),
         register3: words::word(img, at + 3),
-        value,
+        value: Value {
+            first: words::wide(img, at + 4),
+            second: words::wide(img, at + 6),
+        },
     }
 }

@@ -9,7 +9,8 @@ use crate::{Node, NodeIndex, Value, ValueIndex, ValueRecord};
 use keys::Key;
 use node_allocator::{Arena, is_inside, node_at, value_at};
 
-// Four words from a place on.
+// Four words from a place on: four lines, where a loop over an array of them would want an invariant.
+#[tactic(auto, unfolding(crate::specs::Writes::registers_set))]
 fn set_registers(img: &mut [u8], at: usize, a: u32, b: u32, c: u32, d: u32)
     requires { 4 * at + 16 ≤ length img.old }
     ensures { words img.new ≡ registers_set (words img.old) at a b c d }
@@ -20,6 +21,7 @@ fn set_registers(img: &mut [u8], at: usize, a: u32, b: u32, c: u32, d: u32)
     words::set_word_in(img, at + 3, d);
 }
 
+#[tactic(auto, unfolding(crate::specs::Writes::key_set))]
 fn set_key(img: &mut [u8], at: usize, key: Key)
     requires { 4 * at + 16 ≤ length img.old }
     ensures { words img.new ≡ key_set (words img.old) at key }
@@ -28,13 +30,13 @@ fn set_key(img: &mut [u8], at: usize, key: Key)
     words::set_wide_in(img, at + 2, key.high);
 }
 
+#[tactic(auto, unfolding(crate::specs::Writes::node_set))]
 fn set_node_at(img: &mut [u8], at: usize, x: Node)
     requires { 4 * at + 40 ≤ length img.old }
     ensures { words img.new ≡ node_set (words img.old) at x }
 {
-    let key = x.key;
     set_registers(img, at, x.left.0, x.right.0, x.parent.0, x.value.0);
-    set_key(img, at + 4, key);
+    set_key(img, at + 4, x.key);
     words::set_wide_in(img, at + 8, x.prefix);
 }
 
@@ -42,21 +44,11 @@ fn set_node_at(img: &mut [u8], at: usize, x: Node)
 pub fn with_parent(parent: NodeIndex, x: Node) -> Node
     ensures { result ≡ with_parent parent.0 x }
 {
-    let left = x.left;
-    let right = x.right;
-    let value = x.value;
-    let key = x.key;
-    Node {
-        left,
-        right,
-        parent,
-        value,
-        key,
-        prefix: x.prefix,
-    }
+    Node { parent, ..x }
 }
 
 // Node `i` holds this data; its padding stays.
+#[tactic(auto, using(node_allocator::specs::Room::node_inside), unfolding(crate::specs::Writes::set_node))]
 pub fn set_node(img: &mut [u8], n: u32, i: NodeIndex, x: Node)
     requires { 48 * n + 32 ≤ length img.old }
     ensures { words img.new ≡ set_node n (words img.old) i.0 x }
@@ -66,6 +58,7 @@ pub fn set_node(img: &mut [u8], n: u32, i: NodeIndex, x: Node)
     }
 }
 
+#[tactic(auto, unfolding(crate::specs::Writes::value_set))]
 fn set_value_at(img: &mut [u8], at: usize, r: ValueRecord)
     requires { 4 * at + 32 ≤ length img.old }
     ensures { words img.new ≡ value_set (words img.old) at r }
@@ -76,6 +69,7 @@ fn set_value_at(img: &mut [u8], at: usize, r: ValueRecord)
 }
 
 // The value record of leaf `leaf` that holds this value.
+#[tactic(auto, unfolding(crate::specs::Writes::live_record))]
 pub fn live_record(leaf: NodeIndex, value: Value) -> ValueRecord
     ensures { result ≡ live_record leaf.0 value }
 {
@@ -89,6 +83,7 @@ pub fn live_record(leaf: NodeIndex, value: Value) -> ValueRecord
 }
 
 // Value record `j` is this one.
+#[tactic(auto, using(node_allocator::specs::Room::value_inside), unfolding(crate::specs::Writes::set_value))]
 pub fn set_value(img: &mut [u8], m: u32, n: u32, j: ValueIndex, r: ValueRecord)
     requires { 48 * n + 32 * m + 48 ≤ length img.old }
     ensures { words img.new ≡ set_value m n (words img.old) j.0 r }

@@ -1,5 +1,5 @@
 -- A run of words that are all 0: never-used records, which are zeros (rule T13), and blank memory. And a buffer whose words become 0 one by one.
-use Rattle.std.specs.Prelude.{◌≡◌, refl, List, [], ◌∷◌, ◌++◌, ◌↔◌, ◌≢◌, Bool, true, false, ◌&&◌, ℕ, zero, suc, ◌+◌, ◌-◌, ◌*◌, ◌<◌, ◌≤◌, length, get_or, take, set, replicate, eqb}
+use Rattle.std.specs.Prelude.{◌≡◌, refl, List, [], ◌∷◌, ◌++◌, ◌↔◌, ◌≢◌, Bool, true, false, ◌&&◌, ℕ, zero, suc, ◌+◌, ◌-◌, ◌*◌, ◌<◌, ◌≤◌, length, get_or, take, set, replicate, eqb, min}
 use Rattle.std.proofs.Common.{sym, ap, ◌∙◌, ⊎_elim, arith, eq-or-lt_of_le, add-one, take-suc-set, take_all, eq-eqb, ne_eqb, eqb-true}
 use Rattle.std.proofs.Math.Decide.{ℕ_discrete}
 use Rattle.std.proofs.lemmas.List.{replicate-append-replicate}
@@ -35,6 +35,14 @@ pub zeros_stop : (ws : List ℕ) (k many : ℕ) → 0 < many → get_or ws k 0 �
 unfolding zeros_at
 zeros_stop ws k zero h n = absurd (omega arith)
 zeros_stop ws k (suc many) h n = rw (ne_eqb (get_or ws k 0) 0 n)
+
+-- a run that ends at its place, or begins past the end, is 0
+pub zeros_over : (ws : List ℕ) (k many : ℕ) → min (k + many) (length ws) ≤ k → zeros_at ws k many ≡ true
+zeros_over ws k many h = go (ℕ_discrete many 0)
+  where
+    go : Dec (many ≡ 0) → zeros_at ws k many ≡ true
+    go (yes e) = zeros_end ws k many (omega arith)
+    go (no n) = zeros_past ws k many (omega (arith, n))
 
 -- ---- what the test means: each word of the run is 0
 

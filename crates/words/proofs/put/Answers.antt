@@ -1,18 +1,13 @@
 -- `words::put` meets its contract. Assumes nothing.
-use lib.ListN.{length-set}
-use native.Mathlib.Omega.{arith}
+use Rattle.std.proofs.Common.{◌≡◌, ◌+◌, ◌-◌, ◌%◌, ◌/◌, arith}
 use Rattle.words.specs.Words.{put_word}
+use Rattle.words.proofs.Parts.{put_four}
 use Rattle.words.proofs.put.Goals as goal
-
-pub bounds-bytes-at-2 : goal.bounds-bytes-at-2
-bounds-bytes-at-2 c = simp length-set (omega arith)
-
-pub bounds-bytes-at-3 : goal.bounds-bytes-at-3
-bounds-bytes-at-3 c = simp length-set (omega arith)
-
-pub bounds-bytes-at-4 : goal.bounds-bytes-at-4
-bounds-bytes-at-4 c = simp length-set (omega arith)
 
 pub returns : goal.returns
 unfolding put_word
-returns c = cc
+returns c =
+    let s = c.args in
+    let long : s.at + 4 - s.at ≡ 4 = omega arith in
+    let last : s.v / 16777216 % 256 ≡ s.v / 16777216 = omega arith in
+    simp (long, c.copy_from_slice.ensures.after, c.to_le_bytes.ensures, put_four s.at s.bytes.now (s.v % 256) (s.v / 256 % 256) (s.v / 65536 % 256) (s.v / 16777216) c.requires, last)

@@ -1,0 +1,2 @@
+-- What proofs of `words` cite: a part of a buffer that is written as a whole.
+pub mod Parts
