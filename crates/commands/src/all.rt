@@ -18,8 +18,7 @@ pub fn put_all(img: &[u8], out: &mut [u8], at: usize) -> usize
     let made = list(img, 256, 512);
     let mut p = made.position;
     let mut place = at;
-    let mut count: u32 = 0;
-    while count < 256 {
+    for count in 0..256 {
         let stepped = next(img, 256, 512, p);
         let after = stepped.position;
         let given = stepped.entry;
@@ -32,7 +31,6 @@ pub fn put_all(img: &[u8], out: &mut [u8], at: usize) -> usize
                 return answer_close(out, place, r, count);
             }
         }
-        count += 1;
     }
-    put_end(out, place, count)
+    put_end(out, place, 256)
 }

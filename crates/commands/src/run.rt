@@ -18,7 +18,7 @@ use lookup::get::{get, set};
 use records::{Done, Got, Place, Value};
 use texts::Command;
 use texts::parse::parse;
-use texts::print::{put_bad, put_four, put_refusal};
+use texts::print::{put_bad, put_refusal, put_text};
 
 fn insert_line(img: &mut [u8], out: &mut [u8], at: usize, key: Key, v: Value) -> usize
     requires { at + 80 ≤ length out.old }
@@ -51,7 +51,7 @@ fn write_line(img: &mut [u8], out: &mut [u8], at: usize, key: Key, v: Value) -> 
     ensures image { Leaves img.old img.new (done_number (write_of 256 512 (image_of img.old) key)) (write_image 256 512 (image_of img.old) key v) }
 {
     match set(img, 256, 512, key, v) {
-        Done::Yes => put_four(out, at, b's', b'e', b't', b'\n'),
+        Done::Yes => put_text(out, at, b"set\n"),
         Done::Refused(r) => put_refusal(out, at, r),
     }
 }
