@@ -10,6 +10,7 @@ use crate::run::line;
 use texts::print::put_bad;
 
 // Where answering stopped: the first byte of the line that has begun, the place behind the last answer, and whether the line that has begun is too long already.
+// `long` stands beside the places and is no Option: both places are there for a long line too.
 #[derive(Clone, Copy)]
 pub struct Turn {
     pub from: usize,
@@ -37,6 +38,7 @@ fn ended(text: &[u8], long: bool, img: &mut [u8], out: &mut [u8], at: usize) -> 
 }
 
 // Answers the lines that end in a part of the buffer, until none is left or the output has no room for the longest answer.
+// It takes the buffer and two places, and no slice: it answers a place of the buffer, from which `keep` then moves the rest inside it.
 pub fn answer_lines(
     buf: &[u8],
     from: usize,
@@ -86,7 +88,7 @@ pub fn keep(buf: &mut [u8], from: usize, end: usize, long: bool) -> Option<usize
     Some(many)
 }
 
-// The end of the input: a last line without LF counts if it has a byte.
+// The end of the input: a last line without LF counts if it has a byte. What is kept stands at the buffer's front, so it is given by its length, as `keep` answers it.
 pub fn finish(buf: &[u8], kept: Option<usize>, img: &mut [u8], out: &mut [u8], at: usize) -> usize
     requires { (IfSome kept (λ have. have ≤ length buf.now)) × (at + 16911 ≤ length out.old) }
     ensures room { result ≤ at + 16911 }

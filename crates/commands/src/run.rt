@@ -68,6 +68,7 @@ fn get_line(img: &[u8], out: &mut [u8], at: usize, key: Key) -> usize
 }
 
 // Carries a command out and puts its answer into the output, which has room for the longest: a whole listing.
+#[tactic(auto, unfolding(crate::specs::Answers::answer_of, crate::specs::Answers::image_after, crate::specs::Answers::kept_by))]
 fn run(c: Command, img: &mut [u8], out: &mut [u8], at: usize) -> usize
     requires { at + 16911 ≤ length out.old }
     ensures room { result ≤ at + 16911 }

@@ -14,6 +14,7 @@ use records::Done;
 use std::io::{self, Read};
 
 // Where a piece ends: the first byte of the line that has begun, whether it is too long already, and whether every answer was written, or the error of the write that failed.
+// The error stands beside the place, since what is left of the image is promised after a write that failed too.
 #[derive(Clone, Copy)]
 struct Answered {
     from: usize,

@@ -117,7 +117,7 @@ fn report(
     println!(rt; "{agreed} of 200 piece lengths agree")
 }
 
-// Reads until the buffer is full or the input ends, and says how many bytes.
+// Reads until the buffer is full or the input ends, and says how many bytes. A read says how far it came, so this counts bytes and no turns.
 fn read_full(input: &mut impl Read, buf: &mut [u8]) -> io::Result<usize>
     ensures { IfOk result (λ n. n ≤ length buf.new) }
 {

@@ -3,7 +3,7 @@ ghost use Rattle.std.specs.Prelude.{◌≡◌, ◌+◌, ◌≤◌, length, cond,
 ghost use Rattle.texts.specs.Digits.{is_digit, digit_of};
 ghost use Rattle.texts.specs.Lines.{word_at, field_at};
 
-// What a lowercase hex digit stands for.
+// What a lowercase hex digit stands for. `to_digit` and `from_str_radix` would take upper-case digits too.
 #[tactic(auto, using(std::proofs::lemmas::Bool::Decides::nat_tests), unfolding(crate::specs::Digits::is_digit, crate::specs::Digits::digit_of))]
 fn digit(b: u8) -> Option<u64>
     ensures { result ≡ cond (is_digit b) (Some (digit_of b)) None }

@@ -1,4 +1,6 @@
 // Bytes and numbers into the output buffer, from a place on; each function answers the place behind.
+// By hand and not by `Display`: memory is fixed, and `Written` (specs/Put.antt) names each byte of a buffer that is lent.
+// The buffer and the place are two parameters: `Written`, and the theorems `answered_once` and `finished_once` above it, speak of one buffer and several places.
 ghost use Rattle.std.specs.Prelude.{◌≡◌, [], ◌∷◌, ◌++◌, ◌+◌, ◌<◌, ◌≤◌, length};
 ghost use Rattle.texts.specs.Put.{Written};
 ghost use Rattle.texts.specs.Digits.{digits, hex_of, width_of, decimal_of};
