@@ -27,7 +27,7 @@ fn glyph(d: u8) -> u8
     requires { d < 16 }
     ensures { result ≡ digit_glyph d }
 {
-    if d < 10 { 48 + d } else { 87 + d }
+    if d < 10 { b'0' + d } else { b'a' - 10 + d }
 }
 
 // The last digits of a number, so many, in a base from 2 to 16.
