@@ -11,7 +11,7 @@ use Rattle.records.specs.declared.Value.{Value}
 use Rattle.texts.specs.declared.Command.{Command}
 use Rattle.texts.specs.declared.Command.TheVariants as command
 use Rattle.texts.specs.Digits.{glyph, digits, width_of, decimal_of, is_digit, digit_of, digits_at, value_at}
-use Rattle.texts.specs.Lines.{word_at, field_at, one_field, two_fields, key_asked, both_asked, alone_asked, letter_asked, command_of}
+use Rattle.texts.specs.Lines.{both, word_at, field_at, one_field, two_fields, key_asked, both_asked, alone_asked, letter_asked, command_of}
 use Rattle.texts.specs.Texts.{newline, bad_text, full_text, none_text, set_text, pair_text, value_text, entry_text, end_text}
 use Rattle.lists.specs.Entries.{find, held, list_end}
 use Rattle.lists.specs.Machine.{insert, remove, write, Entries, full, list_next}
@@ -115,6 +115,6 @@ pub told_case :
     ++ (replicate 31 48 ++ (49 ∷ 32 ∷ []) ++ replicate 31 48 ++ (51 ∷ 10 ∷ []))
     ++ (101 ∷ 110 ∷ 100 ∷ 32 ∷ 50 ∷ 10 ∷ [])
 unfolding
-    number_of glyph digits width_of decimal_of is_digit digit_of digits_at value_at word_at field_at one_field two_fields key_asked both_asked alone_asked letter_asked command_of
+    number_of glyph digits width_of decimal_of is_digit digit_of digits_at value_at both word_at field_at one_field two_fields key_asked both_asked alone_asked letter_asked command_of
     pair_text value_text entry_text end_text
 told_case = refl

@@ -1,10 +1,10 @@
 -- Lines and answers, and what is kept of a line that has begun, computed.
-use Rattle.std.specs.Prelude.{◌≡◌, refl, List, [], ◌∷◌, ◌++◌, true, false, ℕ, ◌^◌, replicate, Err, Ok}
+use Rattle.std.specs.Prelude.{◌≡◌, refl, List, [], ◌∷◌, ◌++◌, true, false, ℕ, ◌^◌, replicate, Some, None, Err, Ok}
 use Rattle.records.specs.Numbers.{refusal_number}
 use Rattle.records.specs.declared.Refusal.TheVariants as no
 use Rattle.texts.specs.declared.Command.TheVariants as command
 use Rattle.texts.specs.Digits.{glyph, digits, width_of, decimal_of, is_digit, digit_of, digits_at, value_at}
-use Rattle.texts.specs.Lines.{word_at, field_at, one_field, two_fields, key_asked, both_asked, alone_asked, letter_asked, command_of}
+use Rattle.texts.specs.Lines.{both, word_at, field_at, one_field, two_fields, key_asked, both_asked, alone_asked, letter_asked, command_of}
 use Rattle.texts.specs.Texts.{pair_text, value_text, entry_text, end_text, refusal_text}
 use Rattle.commands.specs.Answers.{place_text, gone_text, val_text, done_text}
 use Rattle.commands.specs.Pieces.{kept_of, kept_buffer}
@@ -29,7 +29,7 @@ pub worked_lines :
     × (command_of (97 ∷ 32 ∷ []) ≡ command.Bad)
     × (command_of (65 ∷ []) ≡ command.Bad)
     × (command_of [] ≡ command.Bad)
-unfolding command_of letter_asked key_asked both_asked alone_asked one_field two_fields field_at word_at digits_at value_at is_digit digit_of
+unfolding command_of letter_asked key_asked both_asked alone_asked one_field two_fields both field_at word_at digits_at value_at is_digit digit_of
 worked_lines = (refl, refl, refl, refl, refl, refl, refl, refl, refl, refl, refl)
 
 pub worked_answers :
@@ -52,11 +52,11 @@ worked_answers = (refl, refl, refl, refl, refl, refl, refl, refl, refl)
 
 pub worked_kept :
     -- the two bytes from place 3 on go to the front, and those behind them stay
-    (kept_of false 3 5 ≡ record { have = 2; long = false })
+    (kept_of false 3 5 ≡ Some 2)
     × (kept_buffer false 3 5 (1 ∷ 2 ∷ 3 ∷ 4 ∷ 5 ∷ []) ≡ 4 ∷ 5 ∷ 3 ∷ 4 ∷ 5 ∷ [])
     -- 80 bytes are kept, 81 are marked, and a line that is marked stays so
-    × (kept_of false 0 80 ≡ record { have = 80; long = false })
-    × (kept_of false 0 81 ≡ record { have = 0; long = true })
-    × (kept_of true 3 5 ≡ record { have = 0; long = true })
+    × (kept_of false 0 80 ≡ Some 80)
+    × (kept_of false 0 81 ≡ None)
+    × (kept_of true 3 5 ≡ None)
     × (kept_buffer true 3 5 (1 ∷ 2 ∷ 3 ∷ 4 ∷ 5 ∷ []) ≡ 1 ∷ 2 ∷ 3 ∷ 4 ∷ 5 ∷ [])
 worked_kept = (refl, refl, refl, refl, refl, refl)

@@ -1,6 +1,6 @@
 -- One piece after the other, from what `answer_lines`, `keep` and `finish` promise: behind each piece the bytes so far are fed and the line that has begun is held, and behind the last line the
 -- whole input is answered.
-use Rattle.std.specs.Prelude.{◌≡◌, refl, ◌≢◌, Bool, true, false, ℕ, zero, suc, ◌+◌, ◌-◌, ◌<◌, ◌≤◌, length, get_or, take, leb}
+use Rattle.std.specs.Prelude.{◌≡◌, refl, ◌≢◌, Bool, true, false, ℕ, zero, suc, ◌+◌, ◌-◌, ◌<◌, ◌≤◌, length, get_or, take, leb, is_none, unwrap_or}
 use Rattle.std.proofs.Common.{sym, ap, subst, ◌∙◌, arith, take-take, eq-eqb, ne_eqb, leb-true, leb-false}
 use mathlib.Core.List.{List, [], ◌∷◌, ◌++◌, append-nil}
 use Rattle.std.proofs.Math.Decide.{ℕ_discrete}
@@ -160,7 +160,7 @@ module _ {bytes before img₁ out out₁ buf : List ℕ} {have at : ℕ} {long :
   -- a whole piece: `wide` is the buffer with the piece behind what is held, and no LF is left in it
   pub sofar_more : {img₂ out₂ : List ℕ} {at₂ : ℕ} {long₂ : Bool} (piece wide : List ℕ) (j end : ℕ) → part 0 end wide ≡ take have buf ++ piece → j ≤ end → end ≤ length wide
       → ((k : ℕ) → j ≤ k → k < end → get_or wide k 0 ≡ 10 → ⊥) → Fed long (part 0 j wide) img₁ img₂ out₁ out₂ at at₂ long₂
-      → Sofar (bytes ++ piece) before img₂ out out₂ (kept_buffer long₂ j end wide) (kept_of long₂ j end).have (kept_of long₂ j end).long at₂
+      → Sofar (bytes ++ piece) before img₂ out out₂ (kept_buffer long₂ j end wide) (unwrap_or (kept_of long₂ j end) 0) (is_none (kept_of long₂ j end)) at₂
   sofar_more {img₂} {out₂} {at₂} {long₂} piece wide j end laid h k none y =
       let off = no_end_part wide j end h k none in
       let cut : part 0 j wide ++ part j end wide ≡ take have buf ++ piece = part_append 0 j end wide (omega arith) h ∙ laid in
@@ -171,7 +171,7 @@ module _ {bytes before img₁ out out₁ buf : List ℕ} {have at : ℕ} {long :
       ∙ sym (fed_line_append [] bytes piece) in
       record {
         held =
-            subst (λ (l : List ℕ). Held (kept_buffer long₂ j end wide) (kept_of long₂ j end).have (kept_of long₂ j end).long l) line
+            subst (λ (l : List ℕ). Held (kept_buffer long₂ j end wide) (unwrap_or (kept_of long₂ j end) 0) (is_none (kept_of long₂ j end)) l) line
             (keep_holds long₂ j end wide h k (fed_line hold.first (part 0 j wide)) (y.leaves.line hold.first hold.before));
         text = said.0;
         image = said.1;

@@ -1,11 +1,15 @@
 -- Input that comes in pieces, as the code holds it: the line that has begun is held at the buffer's front, or, where it has more than 80 bytes, only marked; such a line is bad, whatever follows.
-use Rattle.std.specs.Prelude.{◌≡◌, ◌≢◌, ◌⊎◌, Bool, true, false, cond, ◌||◌, length, get_or, set, take, drop, replicate, eqb, ltb}
+use Rattle.std.specs.Prelude.{◌≡◌, ◌≢◌, ◌⊎◌, Bool, true, false, cond, ◌||◌, length, get_or, take, drop, replicate, eqb, ltb, Option, Some, None, is_none, unwrap_or, position}
 use Rattle.std.proofs.Math.Path.{refl}
-use Rattle.std.proofs.Common.{sym, ap, subst, ◌∙◌, inl, inr, add-one, arith, length-append, length-drop, length-set, take-append-drop, drop-cons, take-add, drop-drop, length-take-le, take_at, take-suc, take-suc-set, drop-set-lt, get_or-drop, ne_eqb, ltb-true}
+use Rattle.std.proofs.Common.{sym, ap, subst, ◌∙◌, inl, inr, add-one, arith, length-append, length-drop, drop-cons, take-add, drop-drop, length-take-le, take_at, ne_eqb, eqb-true, ltb-true, ltb-false}
 use mathlib.Core.List.{List, [], ◌∷◌, ◌++◌, append_assoc, append-nil}
 use Rattle.std.proofs.lemmas.Bool.{false≢true, eqb-false}
 use Prim.Native.Nat.{ℕ, zero, suc, ◌+◌, ◌-◌, ◌<◌, ◌≤◌}
+use Rattle.std.specs.List.{position_or_len}
 use Rattle.std.proofs.lemmas.List.{length-replicate}
+use Rattle.std.proofs.lemmas.List.Edits.{get_or-between}
+use Rattle.std.proofs.lemmas.List.Quantifiers.{position-Some}
+use Rattle.std.proofs.lemmas.List.Sums.{fails_before_first}
 use Rattle.records.specs.Layout.{image_of}
 use Rattle.inspection.specs.Outcome.{Leaves, left_alone}
 use Rattle.texts.specs.declared.Command.{Command}
@@ -13,7 +17,6 @@ use Rattle.texts.specs.declared.Command.TheVariants as command
 use Rattle.texts.specs.Put.{Written, then, nothing, reads}
 use Rattle.texts.specs.Lines.{command_of, letter_asked, one_field, two_fields, key_asked, both_asked, alone_asked}
 use Rattle.texts.specs.Texts.{bad_text}
-use Rattle.commands.specs.declared.pieces.Kept.{Kept}
 use Rattle.commands.specs.Answers.{answer_of, image_after, kept_by}
 use Rattle.commands.specs.Session.{byte_text, byte_image, byte_line, byte_kept, fed_text, fed_image, fed_line, fed_kept, either, last_text, last_image, last_kept, fed_text_append, fed_image_append, fed_line_append, fed_kept_append}
 
@@ -166,6 +169,38 @@ part_line a b c bytes h k l e =
 pub part_length : (a b : ℕ) (bytes : List ℕ) → a ≤ b → b ≤ length bytes → length (part a b bytes) ≡ b - a
 part_length a b bytes h k = length-take-le (b - a) (drop a bytes) (omega (arith, length-drop a bytes))
 
+-- a byte of a part, and whether it is LF
+part_byte : (bytes : List ℕ) (from end k : ℕ) → from ≤ k → k < end → get_or (part from end bytes) (k - from) 0 ≡ get_or bytes k 0
+part_byte bytes from end k h l =
+    let z : from + (k - from) ≡ k = omega arith in
+    get_or-between bytes from end (k - from) 0 (omega arith) ∙ ap (λ (i : ℕ). get_or bytes i 0) z
+
+not_lf : (bytes : List ℕ) (from end k : ℕ) → from ≤ k → k < end → eqb (get_or (part from end bytes) (k - from) 0) 10 ≡ false → get_or bytes k 0 ≡ 10 → ⊥
+not_lf bytes from end k h l e f = eqb-false (get_or (part from end bytes) (k - from) 0) 10 e (part_byte bytes from end k h l ∙ f)
+
+-- the first LF of a part, and none
+pub lf_found : (bytes : List ℕ) (from end i : ℕ) → from ≤ end → end ≤ length bytes → Some i ≡ position (λ b. eqb b 10) (part from end bytes)
+    → (from + i < end) × (get_or bytes (from + i) 0 ≡ 10) × ((k : ℕ) → from ≤ k → k < from + i → get_or bytes k 0 ≡ 10 → ⊥)
+lf_found bytes from end i g h e =
+    let first = position-Some (λ b. eqb b 10) (part from end bytes) i 0 (sym e) in
+    let within : from + i < end = omega (arith, first.0, part_length from end bytes g h) in (
+      within,
+      sym (get_or-between bytes from end i 0 within) ∙ eqb-true _ 10 first.1,
+      λ k l m. not_lf bytes from end k l (omega arith) (first.2 (k - from) (omega arith)),
+    )
+
+pub lf_none : (bytes : List ℕ) (from end : ℕ) → from ≤ end → end ≤ length bytes → ◌≡◌ {A = Option ℕ} None (position (λ b. eqb b 10) (part from end bytes))
+    → (k : ℕ) → from ≤ k → k < end → get_or bytes k 0 ≡ 10 → ⊥
+lf_none bytes from end g h e k l m =
+    not_lf bytes from end k l m (fails_before_first (λ b. eqb b 10) (part from end bytes) (k - from) 0 (omega (arith, all (ltb first (length (part from end bytes))) refl e, part_length from end bytes g h)))
+  where
+    first : ℕ
+    first = position_or_len (λ b. eqb b 10) (part from end bytes)
+
+    all : (t : Bool) → ltb first (length (part from end bytes)) ≡ t → ◌≡◌ {A = Option ℕ} None (cond t (Some first) None) → length (part from end bytes) ≤ first
+    all true f n = absurd (cc)
+    all false f n = ltb-false first (length (part from end bytes)) f
+
 module _ (m n : ℕ) where
   -- they belong to the line
   pub fed_text_on : (ws line bytes : List ℕ) → NoEnd bytes → fed_text m n ws line bytes ≡ []
@@ -312,66 +347,27 @@ pub held_front : (buf : List ℕ) (have : ℕ) (line : List ℕ) → take have b
 held_front buf have line h = record { marked = λ e. absurd (false≢true e); empty = λ e. absurd (false≢true e); front = λ e. h }
 
 -- What is kept of the bytes from a place up to another, behind a line that is marked or not: nothing and the mark, or at most 80 bytes, which are moved to the front.
-abbrev pub kept_of : Bool → ℕ → ℕ → Kept
-kept_of long from end = cond (long || ltb 80 (end - from)) (record { have = 0; long = true }) (record { have = end - from; long = false })
+abbrev pub kept_of : Bool → ℕ → ℕ → Option ℕ
+kept_of long from end = cond (long || ltb 80 (end - from)) None (Some (end - from))
 
 abbrev pub kept_buffer : Bool → ℕ → ℕ → List ℕ → List ℕ
 kept_buffer long from end buf = cond (long || ltb 80 (end - from)) buf (part from end buf ++ drop (end - from) buf)
 
 -- so the line that has begun is held
 pub keep_holds : (long : Bool) (from end : ℕ) (buf : List ℕ) → from ≤ end → end ≤ length buf → (line : List ℕ) → Before long line
-    → Held (kept_buffer long from end buf) (kept_of long from end).have (kept_of long from end).long (line ++ part from end buf)
+    → Held (kept_buffer long from end buf) (unwrap_or (kept_of long from end) 0) (is_none (kept_of long from end)) (line ++ part from end buf)
 keep_holds true from end buf h k line b = held_marked buf (line ++ part from end buf) (omega (arith, length-append line (part from end buf)))
 keep_holds false from end buf h k line b = go (ltb 80 (end - from)) refl
   where
     go : (t : Bool) → ltb 80 (end - from) ≡ t
-        → Held (cond t buf (part from end buf ++ drop (end - from) buf)) (cond {A = Kept} t (record { have = 0; long = true }) (record { have = end - from; long = false })).have
-        (cond {A = Kept} t (record { have = 0; long = true }) (record { have = end - from; long = false })).long (line ++ part from end buf)
+        → Held (cond t buf (part from end buf ++ drop (end - from) buf)) (unwrap_or (cond {A = Option ℕ} t None (Some (end - from))) 0)
+        (is_none (cond {A = Option ℕ} t None (Some (end - from)))) (line ++ part from end buf)
     go true e =
         let many : 80 < end - from = ltb-true 80 (end - from) e in
         held_marked buf (line ++ part from end buf) (omega (arith, length-append line (part from end buf), part_length from end buf h k))
     go false e =
         held_front (part from end buf ++ drop (end - from) buf) (end - from) (line ++ part from end buf)
         (take_at (part from end buf) (drop (end - from) buf) (end - from) (part_length from end buf h k) ∙ rw b)
-
--- so many bytes from a place on are moved to the front
-pub record Moved (from : ℕ) (before after : List ℕ) (i : ℕ) : Type 0 where
-  pub long : length after ≡ length before
-  pub front : take i after ≡ take i (drop from before)
-  pub rest : drop i after ≡ drop i before
-
-pub moved_none : {from : ℕ} {before : List ℕ} → Moved from before before 0
-moved_none = record { long = refl; front = refl; rest = refl }
-
-pub moved_more : {from : ℕ} {before after : List ℕ} {i : ℕ} → from + i < length before → Moved from before after i
-    → Moved from before (set after i (get_or after (from + i) 0)) (i + 1)
-moved_more {from} {before} {after} {i} h x =
-    let turn : from + i ≡ i + from = omega arith in
-    let same : get_or after (from + i) 0 ≡ get_or before (from + i) 0 =
-    rw turn (sym (get_or-drop i after from 0) ∙ ap (λ (l : List ℕ). get_or l from 0) x.rest ∙ get_or-drop i before from 0) in
-    let room : i < length after = omega (arith, x.long) in
-    let far : i < length (drop from before) = omega (arith, length-drop from before) in
-    record {
-      long = length-set after i (get_or after (from + i) 0) ∙ x.long;
-      front =
-          rw (add-one i)
-          (take-suc-set after i (get_or after (from + i) 0) room
-          ∙ ap (λ (l : List ℕ). l ++ (get_or after (from + i) 0 ∷ [])) x.front
-          ∙ ap (λ (b : ℕ). take i (drop from before) ++ (b ∷ [])) (same ∙ sym (get_or-drop from before i 0))
-          ∙ sym (take-suc (drop from before) i 0 far));
-      rest =
-          drop-set-lt (i + 1) after i (get_or after (from + i) 0) (omega arith)
-          ∙ sym (drop-drop 1 i after)
-          ∙ ap (λ (l : List ℕ). drop 1 l) x.rest
-          ∙ drop-drop 1 i before;
-    }
-
--- all of them
-pub moved_all : {from : ℕ} {before after : List ℕ} {i : ℕ} (many : ℕ) → i ≡ many → Moved from before after i
-    → after ≡ take many (drop from before) ++ drop many before
-moved_all {from} {before} {after} {i} many e x =
-    subst (λ (k : ℕ). after ≡ take k (drop from before) ++ drop k before) e
-    (sym (take-append-drop i after) ∙ ap (λ (l : List ℕ). l ++ drop i after) x.front ∙ ap (λ (l : List ℕ). take i (drop from before) ++ l) x.rest)
 
 -- ---- the last line
 

@@ -23,7 +23,7 @@ use Rattle.remove.specs.Steps.{leaf_freed, lone_image, moved, place_freed, cut_i
 use Rattle.listing.specs.Position.{opened_made, made_of}
 use Rattle.listing.specs.Step.{open_turn, open_to, pop_to, live_moved, leaf_moved, opened_moved, moved_of, opened_step, step_of}
 use Rattle.texts.specs.Digits.{glyph, digits, width_of as commands_width_of, decimal_of, is_digit, digit_of, digits_at, value_at}
-use Rattle.texts.specs.Lines.{word_at, field_at, one_field, two_fields, key_asked, both_asked, alone_asked, letter_asked, command_of}
+use Rattle.texts.specs.Lines.{both, word_at, field_at, one_field, two_fields, key_asked, both_asked, alone_asked, letter_asked, command_of}
 use Rattle.texts.specs.Texts.{pair_text, value_text, entry_text, end_text, refusal_text}
 use Rattle.commands.specs.Answers.{place_text, gone_text, close_text, step_text, list_text, all_text, answer_of, image_after}
 use Rattle.commands.specs.Session.{byte_text, byte_image, byte_line, fed_text, fed_image, fed_line, last_text, input_text}
@@ -54,7 +54,7 @@ unfolding
     taken_node next_node taken_value leaf_tests split_tests stop_plan insert_plan leaf_taken copy_index both_taken first_image adopted fork_node forked split_image plan_image plan_place opened_plan
     insert_of insert_image sibling_of sibling_ok cut_plan leaf_plan reached_plan leaf_freed lone_image moved place_freed cut_image remove_plan_image value_gone remove_opened_plan remove_of removed_image
     opened_made made_of open_turn open_to pop_to live_moved leaf_moved opened_moved moved_of opened_step step_of
-    glyph digits commands_width_of decimal_of is_digit digit_of digits_at value_at word_at field_at one_field two_fields key_asked both_asked alone_asked letter_asked command_of
+    glyph digits commands_width_of decimal_of is_digit digit_of digits_at value_at both word_at field_at one_field two_fields key_asked both_asked alone_asked letter_asked command_of
     pair_text value_text entry_text end_text refusal_text place_text gone_text close_text step_text list_text all_text answer_of image_after
     byte_text byte_image byte_line fed_text fed_image fed_line last_text input_text blank started
 whole_case = refl

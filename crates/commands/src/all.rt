@@ -16,8 +16,7 @@ pub fn put_all(img: &[u8], out: &mut [u8], at: usize) -> usize
 {
     let mut p = list(img, 256, 512).position;
     let mut place = at;
-    let mut count: u32 = 0;
-    while count < 256 {
+    for count in 0..256 {
         let stepped = next(img, 256, 512, p);
         p = stepped.position;
         match stepped.entry {
@@ -28,7 +27,6 @@ pub fn put_all(img: &[u8], out: &mut [u8], at: usize) -> usize
                 return answer_close(out, place, r, count);
             }
         }
-        count += 1;
     }
-    put_end(out, place, count)
+    put_end(out, place, 256)
 }

@@ -4,10 +4,8 @@ ghost use Rattle.texts.specs.Put.{Written};
 ghost use Rattle.commands.specs.Answers.{place_text, gone_text, val_text, one_text, close_text};
 
 use keys::Key;
-use records::{NodeIndex, Refusal, Value, number};
-use texts::print::{
-    put_bad, put_byte, put_decimal, put_end, put_entry, put_four, put_refusal, put_value,
-};
+use records::{NodeIndex, Refusal, Value};
+use texts::print::{put_bad, put_decimal, put_end, put_entry, put_refusal, put_text, put_value};
 
 // `ok INDEX`
 pub fn put_index(out: &mut [u8], at: usize, i: NodeIndex) -> usize
@@ -15,11 +13,9 @@ pub fn put_index(out: &mut [u8], at: usize, i: NodeIndex) -> usize
     ensures room { result ≤ at + 80 }
     ensures text { Written out.old out.new at result (place_text (Ok i)) }
 {
-    let a = put_byte(out, at, b'o');
-    let b = put_byte(out, a, b'k');
-    let c = put_byte(out, b, b' ');
-    let d = put_decimal(out, c, i.0);
-    put_byte(out, d, b'\n')
+    let a = put_text(out, at, b"ok ");
+    let b = put_decimal(out, a, i.0);
+    put_text(out, b, b"\n")
 }
 
 // `gone V`
@@ -28,9 +24,8 @@ pub fn put_gone(out: &mut [u8], at: usize, v: Value) -> usize
     ensures room { result ≤ at + 80 }
     ensures text { Written out.old out.new at result (gone_text (Ok v)) }
 {
-    let a = put_four(out, at, b'g', b'o', b'n', b'e');
-    let b = put_byte(out, a, b' ');
-    put_value(out, b, v)
+    let a = put_text(out, at, b"gone ");
+    put_value(out, a, v)
 }
 
 // `val V`
@@ -39,7 +34,7 @@ pub fn put_val(out: &mut [u8], at: usize, v: Value) -> usize
     ensures room { result ≤ at + 80 }
     ensures text { Written out.old out.new at result (val_text (Ok v)) }
 {
-    let a = put_four(out, at, b'v', b'a', b'l', b' ');
+    let a = put_text(out, at, b"val ");
     put_value(out, a, v)
 }
 
@@ -61,8 +56,8 @@ pub fn answer_close(out: &mut [u8], at: usize, why: Refusal, count: u32) -> usiz
     ensures room { result ≤ at + 15 }
     ensures text { Written out.old out.new at result (close_text why count) }
 {
-    if number(why) == 4 {
-        return put_end(out, at, count);
+    match why {
+        Refusal::Absent => put_end(out, at, count),
+        _ => put_bad(out, at),
     }
-    put_bad(out, at)
 }

@@ -1,6 +1,6 @@
 // Input that comes in pieces: lines are cut wherever they fall. A buffer holds the bytes of the line that has begun, at its front, and behind them the next piece.
 // A line of more than 80 bytes is not kept: it is marked, and answered when it ends.
-ghost use Rattle.std.specs.Prelude.{◌≡◌, ℕ, ◌+◌, ◌-◌, ◌<◌, ◌≤◌, length, get_or, take};
+ghost use Rattle.std.specs.Prelude.{◌≡◌, ℕ, ◌+◌, ◌-◌, ◌<◌, ◌≤◌, length, get_or, take, eqb, position, is_none, unwrap_or, IfSome};
 ghost use Rattle.records.specs.Layout.{image_of};
 ghost use Rattle.inspection.specs.Outcome.{Leaves};
 ghost use Rattle.texts.specs.Put.{Written};
@@ -10,6 +10,7 @@ use crate::run::line;
 use texts::print::put_bad;
 
 // Where answering stopped: the first byte of the line that has begun, the place behind the last answer, and whether the line that has begun is too long already.
+// `long` stands beside the places and is no Option: both places are there for a long line too.
 #[derive(Clone, Copy)]
 pub struct Turn {
     pub from: usize,
@@ -17,28 +18,11 @@ pub struct Turn {
     pub long: bool,
 }
 
-// What is kept of the line that has begun: so many bytes at the buffer's front, or the mark.
-#[derive(Clone, Copy)]
-pub struct Kept {
-    pub have: usize,
-    pub long: bool,
-}
-
-// The place of the first LF, or the end.
-fn line_end(buf: &[u8], from: usize, end: usize) -> usize
-    requires { (from ≤ end) × (end ≤ length buf.now) }
-    ensures within { (from ≤ result) × (result ≤ end) }
-    ensures before { (k : ℕ) → from ≤ k → k < result → get_or buf.now k 0 ≡ 10 → ⊥ }
-    ensures found { result < end → get_or buf.now result 0 ≡ 10 }
+// The place of the first LF.
+fn line_end(part: &[u8]) -> Option<usize>
+    ensures { result ≡ position (λ b. eqb b 10) part.now }
 {
-    let mut i = from;
-    while i < end {
-        if buf[i] == b'\n' {
-            return i;
-        }
-        i += 1;
-    }
-    i
+    part.iter().position(|b| *b == b'\n')
 }
 
 // A line that has ended.
@@ -54,6 +38,7 @@ fn ended(text: &[u8], long: bool, img: &mut [u8], out: &mut [u8], at: usize) -> 
 }
 
 // Answers the lines that end in a part of the buffer, until none is left or the output has no room for the longest answer.
+// It takes the buffer and two places, and no slice: it answers a place of the buffer, from which `keep` then moves the rest inside it.
 pub fn answer_lines(
     buf: &[u8],
     from: usize,
@@ -72,14 +57,11 @@ pub fn answer_lines(
     let mut start = from;
     let mut place = at;
     let mut over = long;
-    while start < end {
-        if out.len() - place < 16911 {
+    while 16911 <= out.len() - place {
+        let Some(size) = line_end(&buf[start..end]) else {
             break;
-        }
-        let stop = line_end(buf, start, end);
-        if stop == end {
-            break;
-        }
+        };
+        let stop = start + size;
         place = ended(&buf[start..stop], over, img, out, place);
         over = false;
         start = stop + 1;
@@ -91,56 +73,31 @@ pub fn answer_lines(
     }
 }
 
-// Keeps what has begun: at most 80 bytes go to the front.
-pub fn keep(buf: &mut [u8], from: usize, end: usize, long: bool) -> Kept
+// Keeps what has begun: at most 80 bytes go to the front, and so many are kept. Of a longer line there is nothing, which marks it.
+pub fn keep(buf: &mut [u8], from: usize, end: usize, long: bool) -> Option<usize>
     requires { (from ≤ end) × (end ≤ length buf.old) }
-    ensures room { result.have ≤ 80 }
+    ensures room { IfSome result (λ have. have ≤ 80) }
     ensures kept { result ≡ kept_of long from end }
     ensures buffer { buf.new ≡ kept_buffer long from end buf.old }
 {
     let many = end - from;
-    if long {
-        return Kept {
-            have: 0,
-            long: true,
-        };
+    if long || 80 < many {
+        return None;
     }
-    if 80 < many {
-        return Kept {
-            have: 0,
-            long: true,
-        };
-    }
-    let mut i: usize = 0;
-    while i < many {
-        buf[i] = buf[from + i];
-        i += 1;
-    }
-    Kept {
-        have: many,
-        long: false,
-    }
+    buf.copy_within(from..end, 0);
+    Some(many)
 }
 
-// The end of the input: a last line without LF counts if it has a byte.
-pub fn finish(
-    buf: &[u8],
-    have: usize,
-    long: bool,
-    img: &mut [u8],
-    out: &mut [u8],
-    at: usize,
-) -> usize
-    requires { (have ≤ length buf.now) × (at + 16911 ≤ length out.old) }
+// The end of the input: a last line without LF counts if it has a byte. What is kept stands at the buffer's front, so it is given by its length, as `keep` answers it.
+pub fn finish(buf: &[u8], kept: Option<usize>, img: &mut [u8], out: &mut [u8], at: usize) -> usize
+    requires { (IfSome kept (λ have. have ≤ length buf.now)) × (at + 16911 ≤ length out.old) }
     ensures room { result ≤ at + 16911 }
-    ensures text { Written out.old out.new at result (ending_text 256 512 long (image_of img.old) (take have buf.now)) }
-    ensures image { Leaves img.old img.new (ending_kept 256 512 long (image_of img.old) (take have buf.now)) (ending_image 256 512 long (image_of img.old) (take have buf.now)) }
+    ensures text { Written out.old out.new at result (ending_text 256 512 (is_none kept) (image_of img.old) (take (unwrap_or kept 0) buf.now)) }
+    ensures image { Leaves img.old img.new (ending_kept 256 512 (is_none kept) (image_of img.old) (take (unwrap_or kept 0) buf.now)) (ending_image 256 512 (is_none kept) (image_of img.old) (take (unwrap_or kept 0) buf.now)) }
 {
-    if long {
-        return put_bad(out, at);
+    match kept {
+        None => put_bad(out, at),
+        Some(0) => at,
+        Some(have) => line(&buf[..have], img, out, at),
     }
-    if 0 < have {
-        return line(&buf[0..have], img, out, at);
-    }
-    at
 }

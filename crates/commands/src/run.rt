@@ -18,7 +18,7 @@ use lookup::get::{get, set};
 use records::Value;
 use texts::Command;
 use texts::parse::parse;
-use texts::print::{put_bad, put_four, put_refusal};
+use texts::print::{put_bad, put_refusal, put_text};
 
 fn insert_line(img: &mut [u8], out: &mut [u8], at: usize, key: Key, v: Value) -> usize
     requires { at + 80 ≤ length out.old }
@@ -51,7 +51,7 @@ fn write_line(img: &mut [u8], out: &mut [u8], at: usize, key: Key, v: Value) -> 
     ensures image { Leaves img.old img.new (answer_number (write_of 256 512 (image_of img.old) key)) (write_image 256 512 (image_of img.old) key v) }
 {
     match set(img, 256, 512, key, v) {
-        Ok(()) => put_four(out, at, b's', b'e', b't', b'\n'),
+        Ok(()) => put_text(out, at, b"set\n"),
         Err(r) => put_refusal(out, at, r),
     }
 }
@@ -68,6 +68,7 @@ fn get_line(img: &[u8], out: &mut [u8], at: usize, key: Key) -> usize
 }
 
 // Carries a command out and puts its answer into the output, which has room for the longest: a whole listing.
+#[tactic(auto, unfolding(crate::specs::Answers::answer_of, crate::specs::Answers::image_after, crate::specs::Answers::kept_by))]
 fn run(c: Command, img: &mut [u8], out: &mut [u8], at: usize) -> usize
     requires { at + 16911 ≤ length out.old }
     ensures room { result ≤ at + 16911 }

@@ -3,7 +3,7 @@
 // What a line asks and what it is answered is `commands`. A write that fails ends the program; a read that fails ends the input. Either way `main` ends with that error.
 #![tactic(auto)]
 
-ghost use Rattle.std.specs.Prelude.{◌≡◌, ℕ, ◌+◌, ◌<◌, ◌≤◌, length, get_or, take, IfOk, OnOk};
+ghost use Rattle.std.specs.Prelude.{◌≡◌, ℕ, ◌+◌, ◌<◌, ◌≤◌, length, get_or, take, is_none, unwrap_or, IfSome, IfOk, OnOk};
 ghost use Rattle.records.specs.Layout.{image_of};
 ghost use Rattle.inspection.specs.Outcome.{Leaves};
 ghost use Rattle.commands.specs.Pieces.{PieceLeaves, part, ending_image, ending_kept};
@@ -14,6 +14,7 @@ use records::Done;
 use std::io::{self, Read};
 
 // Where a piece ends: the first byte of the line that has begun, whether it is too long already, and whether every answer was written, or the error of the write that failed.
+// The error stands beside the place, since what is left of the image is promised after a write that failed too.
 #[derive(Clone, Copy)]
 struct Answered {
     from: usize,
@@ -44,28 +45,18 @@ fn answer_piece(
 {
     let mut from: usize = 0;
     let mut over = long;
-    let mut turns = end + 1;
-    while 0 < turns {
+    loop {
         let t = answer_lines(buf, from, end, over, img, out, 0);
         from = t.from;
         over = t.long;
-        let at = t.at;
-        if let Err(e) = rt.write_all(&out[0..at]) {
+        let written = rt.write_all(&out[..t.at]);
+        if written.is_err() || 16911 <= out.len() - t.at {
             return Answered {
                 from,
                 long: over,
-                written: Err(e),
+                written,
             };
         }
-        if 16911 <= out.len() - at {
-            break;
-        }
-        turns -= 1;
-    }
-    Answered {
-        from,
-        long: over,
-        written: Ok(()),
     }
 }
 
@@ -73,16 +64,15 @@ fn answer_piece(
 fn answer_last(
     rt: &impl Print,
     buf: &[u8],
-    have: usize,
-    long: bool,
+    kept: Option<usize>,
     img: &mut [u8],
     out: &mut [u8],
 ) -> io::Result<()>
-    requires { (have ≤ length buf.now) × (16911 ≤ length out.old) }
-    ensures { Leaves img.old img.new (ending_kept 256 512 long (image_of img.old) (take have buf.now)) (ending_image 256 512 long (image_of img.old) (take have buf.now)) }
+    requires { (IfSome kept (λ have. have ≤ length buf.now)) × (16911 ≤ length out.old) }
+    ensures { Leaves img.old img.new (ending_kept 256 512 (is_none kept) (image_of img.old) (take (unwrap_or kept 0) buf.now)) (ending_image 256 512 (is_none kept) (image_of img.old) (take (unwrap_or kept 0) buf.now)) }
 {
-    let at = finish(buf, have, long, img, out, 0);
-    rt.write_all(&out[0..at])
+    let at = finish(buf, kept, img, out, 0);
+    rt.write_all(&out[..at])
 }
 
 // The whole input, on an image that start has made.
@@ -95,27 +85,23 @@ fn answer_input(
 ) -> io::Result<()>
     requires { (80 ≤ length buf.old) × (length buf.old ≤ 65536) × (16911 ≤ length out.old) }
 {
-    let mut have: usize = 0;
-    let mut long = false;
-    let mut turns = u64::MAX;
-    while 0 < turns {
+    let mut kept = Some(0);
+    for _ in 0..u64::MAX {
+        let have = kept.unwrap_or(0);
         let got = match read_part(input, &mut buf[have..]) {
             Ok(got) => got,
             Err(e) => {
-                answer_last(rt, buf, have, long, img, out)?;
+                answer_last(rt, buf, kept, img, out)?;
                 return Err(e);
             }
         };
         if got == 0 {
-            return answer_last(rt, buf, have, long, img, out);
+            return answer_last(rt, buf, kept, img, out);
         }
         let end = have + got;
-        let a = answer_piece(rt, buf, end, long, img, out);
+        let a = answer_piece(rt, buf, end, kept.is_none(), img, out);
         a.written?;
-        let kept = keep(buf, a.from, end, a.long);
-        have = kept.have;
-        long = kept.long;
-        turns -= 1;
+        kept = keep(buf, a.from, end, a.long);
     }
     Ok(())
 }

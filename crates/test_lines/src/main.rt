@@ -2,7 +2,7 @@
 // and how many of the other runs answer the same bytes. A read or a write that fails ends it with that error.
 #![tactic(auto)]
 
-ghost use Rattle.std.specs.Prelude.{◌≡◌, ℕ, ◌+◌, ◌<◌, ◌≤◌, true, false, [], length, take, replicate, IfOk};
+ghost use Rattle.std.specs.Prelude.{◌≡◌, ℕ, ◌+◌, ◌<◌, ◌≤◌, [], length, take, replicate, MatchResult, IfOk, IfErr, OnOk};
 ghost use Rattle.records.specs.Layout.{image_of};
 ghost use Rattle.inspection.specs.Outcome.{Leaves};
 ghost use Rattle.lookup.specs.Start.{start_image};
@@ -13,60 +13,53 @@ use commands::pieces::{answer_lines, finish, keep};
 use lookup::start::start;
 use std::io::{self, Read};
 
-// The answers to a text: how many bytes they are, and whether the whole text is answered.
+// The output has no room for the longest answer: so many bytes of answers went before.
 #[derive(Clone, Copy)]
-struct Reply {
+struct Full {
     at: usize,
-    whole: bool,
 }
 
-// The bytes that a piece has: `size`, or what is left.
-fn piece(size: usize, left: usize) -> usize
-    requires { (1 ≤ size) × (1 ≤ left) }
-    ensures { (1 ≤ result) × (result ≤ size) × (result ≤ left) }
-{
-    if size < left { size } else { left }
-}
-
-// Answers a text that comes in pieces of so many bytes, until all is answered or the output has no room for the longest answer.
-fn feed(text: &[u8], size: usize, img: &mut [u8], buf: &mut [u8], out: &mut [u8]) -> Reply
+// Answers a text that comes in pieces of so many bytes, until all is answered or the output has no room for the longest answer. How many bytes the answers are.
+fn feed(
+    text: &[u8],
+    size: usize,
+    img: &mut [u8],
+    buf: &mut [u8],
+    out: &mut [u8],
+) -> Result<usize, Full>
     requires { (1 ≤ size) × (80 + size ≤ length buf.old) × (16911 ≤ length out.old) }
-    ensures within { result.at ≤ length out.old }
-    ensures text { result.whole ≡ true → Written out.old out.new 0 result.at (input_text 256 512 (image_of img.old) text.now) }
-    ensures image { result.whole ≡ true → Leaves img.old img.new (input_kept 256 512 (image_of img.old) text.now) (input_image 256 512 (image_of img.old) text.now) }
-    ensures full { result.whole ≡ false → (length out.old < result.at + 16911) × ((k : ℕ) × (k ≤ length text.now) × Written out.old out.new 0 result.at (fed_text 256 512 (image_of img.old) [] (take k text.now)) × Leaves img.old img.new (fed_kept 256 512 (image_of img.old) [] (take k text.now)) (fed_image 256 512 (image_of img.old) [] (take k text.now))) }
+    ensures within { MatchResult result (λ at. at ≤ length out.old) (λ e. e.at ≤ length out.old) }
+    ensures text { IfOk result (λ at. Written out.old out.new 0 at (input_text 256 512 (image_of img.old) text.now)) }
+    ensures image { OnOk result (Leaves img.old img.new (input_kept 256 512 (image_of img.old) text.now) (input_image 256 512 (image_of img.old) text.now)) }
+    ensures full { IfErr result (λ e. (length out.old < e.at + 16911) × ((k : ℕ) × (k ≤ length text.now) × Written out.old out.new 0 e.at (fed_text 256 512 (image_of img.old) [] (take k text.now)) × Leaves img.old img.new (fed_kept 256 512 (image_of img.old) [] (take k text.now)) (fed_image 256 512 (image_of img.old) [] (take k text.now)))) }
 {
-    let mut from: usize = 0;
-    let mut have: usize = 0;
-    let mut long = false;
+    let mut kept = Some(0);
     let mut at: usize = 0;
-    while from < text.len() {
-        let many = piece(size, text.len() - from);
-        let until = from + many;
-        let end = have + many;
-        buf[have..end].copy_from_slice(&text[from..until]);
-        let t = answer_lines(buf, 0, end, long, img, out, at);
+    for piece in text.chunks(size) {
+        let have = kept.unwrap_or(0);
+        let end = have + piece.len();
+        buf[have..end].copy_from_slice(piece);
+        let t = answer_lines(buf, 0, end, kept.is_none(), img, out, at);
         at = t.at;
         if out.len() - at < 16911 {
-            return Reply { at, whole: false };
+            return Err(Full { at });
         }
-        let kept = keep(buf, t.from, end, t.long);
-        have = kept.have;
-        long = kept.long;
-        from = until;
+        kept = keep(buf, t.from, end, t.long);
     }
-    let behind = finish(buf, have, long, img, out, at);
-    Reply {
-        at: behind,
-        whole: true,
-    }
+    Ok(finish(buf, kept, img, out, at))
 }
 
 // A run on a new map.
-fn run(text: &[u8], size: usize, img: &mut [u8], buf: &mut [u8], out: &mut [u8]) -> Reply
+fn run(
+    text: &[u8],
+    size: usize,
+    img: &mut [u8],
+    buf: &mut [u8],
+    out: &mut [u8],
+) -> Result<usize, Full>
     requires { (1 ≤ size) × (80 + size ≤ length buf.old) × (16911 ≤ length out.old) }
-    ensures within { result.at ≤ length out.old }
-    ensures text { result.whole ≡ true → Written out.old out.new 0 result.at (input_text 256 512 (start_image 256 512 (replicate (length (image_of img.old)) 0)) text.now) }
+    ensures within { MatchResult result (λ at. at ≤ length out.old) (λ e. e.at ≤ length out.old) }
+    ensures text { IfOk result (λ at. Written out.old out.new 0 at (input_text 256 512 (start_image 256 512 (replicate (length (image_of img.old)) 0)) text.now)) }
 {
     words::clear(img);
     start(img, 256, 512);
@@ -84,9 +77,10 @@ fn agrees(
 ) -> bool
     requires { (1 ≤ size) × (80 + size ≤ length buf.old) × (16911 ≤ length out.old) }
 {
-    let r = run(text, size, img, buf, out);
-    let many = r.at;
-    r.whole && first == &out[0..many]
+    match run(text, size, img, buf, out) {
+        Ok(many) => first == &out[..many],
+        Err(_) => false,
+    }
 }
 
 // How many of the lengths from 1 to 200 agree.
@@ -94,12 +88,10 @@ fn count(text: &[u8], img: &mut [u8], buf: &mut [u8], first: &[u8], out: &mut [u
     requires { (280 ≤ length buf.old) × (16911 ≤ length out.old) }
 {
     let mut agreed: u64 = 0;
-    let mut size: usize = 1;
-    while size <= 200 {
+    for size in 1..=200 {
         if agrees(text, size, img, buf, first, out) {
-            agreed = std::num::wrapping_add_u64(agreed, 1);
+            agreed += 1;
         }
-        size += 1;
     }
     agreed
 }
@@ -116,14 +108,16 @@ fn report(
 ) -> io::Result<()>
     requires { (n ≤ length text.now) × (60080 ≤ length buf.old) × (16911 ≤ length first.old) × (16911 ≤ length out.old) }
 {
-    let r = run(&text[0..n], 60000, img, buf, first);
-    let many = r.at;
-    rt.write_all(&first[0..many])?;
-    let agreed = count(&text[0..n], img, buf, &first[0..many], out);
+    let many = match run(&text[..n], 60000, img, buf, first) {
+        Ok(many) => many,
+        Err(full) => full.at,
+    };
+    rt.write_all(&first[..many])?;
+    let agreed = count(&text[..n], img, buf, &first[..many], out);
     println!(rt; "{agreed} of 200 piece lengths agree")
 }
 
-// Reads until the buffer is full or the input ends, and says how many bytes.
+// Reads until the buffer is full or the input ends, and says how many bytes. A read says how far it came, so this counts bytes and no turns.
 fn read_full(input: &mut impl Read, buf: &mut [u8]) -> io::Result<usize>
     ensures { IfOk result (λ n. n ≤ length buf.new) }
 {

@@ -1,8 +1,9 @@
 -- Numbers as text and back: the rules C, keys and values in 32 lowercase hexadecimal digits, indexes and counts in decimal without leading zeros.
-use Rattle.std.specs.Prelude.{◌≡◌, refl, List, [], ◌∷◌, ◌++◌, Bool, true, false, cond, ◌&&◌, ◌||◌, ℕ, zero, suc, ◌+◌, ◌*◌, ◌-◌, ◌/◌, ◌%◌, ◌^◌, ◌<◌, ◌≤◌, length, get_or, set, ltb, leb}
-use Rattle.std.proofs.Common.{sym, ap, ◌∙◌, append_assoc, append-nil, add-suc, mul_comm, pow-suc, add-one, arith, length-append, leb-true}
-use Rattle.std.proofs.Math.Nat.{one-le-pow, pow-le-pow_right, div-div-eq-div-mul}
+use Rattle.std.specs.Prelude.{◌≡◌, refl, List, [], ◌∷◌, ◌++◌, Bool, true, false, cond, ◌&&◌, ◌||◌, ℕ, zero, suc, ◌+◌, ◌*◌, ◌-◌, ◌/◌, ◌%◌, ◌^◌, ◌<◌, ◌≤◌, length, get_or, set, ltb, leb, Option, Some, None}
+use Rattle.std.proofs.Common.{sym, ap, ◌∙◌, ⊎_elim, append_assoc, append-nil, add-suc, mul_comm, pow-suc, add-one, arith, length-append, leb-true}
+use Rattle.std.proofs.Math.Nat.{eq-or-lt_of_le, one-le-pow, pow-le-pow_right, div-div-eq-div-mul}
 use Rattle.std.proofs.Math.Arith.{mod-mul}
+use Rattle.std.proofs.lemmas.Bool.Decides.{nat_tests}
 use Rattle.words.specs.Tests.{and_r}
 use Rattle.texts.specs.Put.{put, put_none, put_last}
 
@@ -70,6 +71,21 @@ width_of n =
     (cond (ltb n 100000) 5
     (cond (ltb n 1000000) 6 (cond (ltb n 10000000) 7 (cond (ltb n 100000000) 8 (cond (ltb n 1000000000) 9 10))))))))
 
+-- one more than the greatest power of ten that is not above it
+pub width_is : (n k : ℕ) → k < 10 → 10 ^ k ≤ n → n < 10 * 10 ^ k → width_of n ≡ k + 1
+unfolding width_of
+width_is n zero h p q = grind (arith, nat_tests)
+width_is n (suc zero) h p q = grind (arith, nat_tests)
+width_is n (suc (suc zero)) h p q = grind (arith, nat_tests)
+width_is n (suc (suc (suc zero))) h p q = grind (arith, nat_tests)
+width_is n (suc (suc (suc (suc zero)))) h p q = grind (arith, nat_tests)
+width_is n (suc (suc (suc (suc (suc zero))))) h p q = grind (arith, nat_tests)
+width_is n (suc (suc (suc (suc (suc (suc zero)))))) h p q = grind (arith, nat_tests)
+width_is n (suc (suc (suc (suc (suc (suc (suc zero))))))) h p q = grind (arith, nat_tests)
+width_is n (suc (suc (suc (suc (suc (suc (suc (suc zero)))))))) h p q = grind (arith, nat_tests)
+width_is n (suc (suc (suc (suc (suc (suc (suc (suc (suc zero))))))))) h p q = grind (arith, nat_tests)
+width_is n (suc (suc (suc (suc (suc (suc (suc (suc (suc (suc k)))))))))) h p q = absurd (omega arith)
+
 -- a 32-bit number in decimal, without leading zeros
 unfoldable pub decimal_of : ℕ → List ℕ
 decimal_of n = digits 10 (width_of n) n
@@ -102,6 +118,34 @@ digits_at_more line at k = rw (add-one k)
 pub value_at_more : (line : List ℕ) (at k : ℕ) → value_at line at (k + 1) ≡ 16 * value_at line at k + digit_of (get_or line (at + k) 0)
 unfolding value_at
 value_at_more line at k = rw (add-one k)
+
+-- one that is no digit
+and_false : (x : Bool) → (x && false) ≡ false
+and_false true = refl
+and_false false = refl
+
+pub digits_at_not : (line : List ℕ) (at j k : ℕ) → j < k → is_digit (get_or line (at + j) 0) ≡ false → digits_at line at k ≡ false
+unfolding digits_at
+digits_at_not line at j zero h e = absurd (omega arith)
+digits_at_not line at j (suc k) h e =
+    let here : j ≡ k → (digits_at line at k && is_digit (get_or line (at + k) 0)) ≡ false = λ f. rw (← f, e) (and_false (digits_at line at j)) in
+    let before : j < k → (digits_at line at k && is_digit (get_or line (at + k) 0)) ≡ false = λ l. rw (digits_at_not line at j k l e) refl in
+    ⊎_elim here before (eq-or-lt_of_le (omega arith))
+
+-- what is read of a byte
+pub digit_some : (b v : ℕ) → Some v ≡ cond (is_digit b) (Some (digit_of b)) None → (is_digit b ≡ true) × (v ≡ digit_of b)
+digit_some b v = go (is_digit b)
+  where
+    go : (t : Bool) → Some v ≡ cond t (Some (digit_of b)) None → (t ≡ true) × (v ≡ digit_of b)
+    go true e = (refl, cc)
+    go false e = absurd (cc)
+
+pub digit_none : (b : ℕ) → ◌≡◌ {A = Option ℕ} None (cond (is_digit b) (Some (digit_of b)) None) → is_digit b ≡ false
+digit_none b = go (is_digit b)
+  where
+    go : (t : Bool) → ◌≡◌ {A = Option ℕ} None (cond t (Some (digit_of b)) None) → t ≡ false
+    go true e = absurd (cc)
+    go false e = refl
 
 -- a digit is below 16, and k digits are below 16 ^ k: sixteen fit 64 bits
 pub digit_small : (b : ℕ) → digit_of b < 16

@@ -1,6 +1,6 @@
 -- What a line that is not bad looks like: it is its command's own text, byte for byte, and the text of a command asks for that command. So the definitions by places in Lines say what the rules C say in
 -- words: "one space parts the fields; keys and values are 32 lowercase hex digits, high or first word first", and nothing else is taken.
-use Rattle.std.specs.Prelude.{◌≡◌, refl, Bool, true, false, cond, ◌&&◌, ℕ, zero, suc, ◌+◌, ◌*◌, ◌-◌, ◌/◌, ◌%◌, ◌<◌, ◌≤◌, get_or, drop, leb, eqb}
+use Rattle.std.specs.Prelude.{◌≡◌, refl, Bool, true, false, cond, ◌&&◌, ℕ, zero, suc, ◌+◌, ◌*◌, ◌-◌, ◌/◌, ◌%◌, ◌<◌, ◌≤◌, get_or, drop, leb, eqb, Option, Some, None, option_map}
 use Rattle.std.proofs.Common.{sym, ◌∙◌, ⊎_elim, add-suc, arith, drop-cons}
 use Rattle.std.proofs.Math.Path.{ap}
 use mathlib.Core.List.{List, [], ◌∷◌, ◌++◌, append_assoc, append-nil}
@@ -10,15 +10,11 @@ use borrow.Author.Tests.{leb-true, lt-ltb, le-ltb, lt-leb, eqb-true}
 use Rattle.words.specs.Tests.{and_l, and_r, or_cases}
 use Rattle.keys.specs.declared.Key.{Key}
 use Rattle.records.specs.declared.Value.{Value}
-use Rattle.texts.specs.declared.OneField.{OneField}
-use Rattle.texts.specs.declared.OneField.TheVariants as one
-use Rattle.texts.specs.declared.TwoFields.{TwoFields}
-use Rattle.texts.specs.declared.TwoFields.TheVariants as two
 use Rattle.texts.specs.declared.Command.{Command}
 use Rattle.texts.specs.declared.Command.TheVariants as command
-use Rattle.texts.specs.Lines.{word_at, field_at, key_from, value_from, one_field, two_fields, key_asked, both_asked, alone_asked, letter_asked, command_of}
+use Rattle.texts.specs.Lines.{both, word_at, field_at, key_from, value_from, both_from, one_field, two_fields, key_asked, both_asked, alone_asked, letter_asked, command_of}
 use Rattle.texts.specs.Texts.{pair_text}
-use Rattle.texts.specs.Digits.{glyph, digits, is_digit, digit_of, digit_small, digits_at, value_at}
+use Rattle.texts.specs.Digits.{glyph, digits, hex_of, is_digit, digit_of, digit_small, digits_at, value_at}
 
 -- ---- digits
 
@@ -61,19 +57,37 @@ digits_exact line at (suc k) e h =
 
 -- ---- fields
 
+-- the parts of two answers that are both there, and of a word that is
+pub both_is : {A B : Type 0} (x : Option A) (y : Option B) (w : A × B) → both x y ≡ Some w → (x ≡ Some w.0) × (y ≡ Some w.1)
+unfolding both
+both_is None y w e = absurd (cc)
+both_is (Some a) None w e = absurd (cc)
+both_is (Some a) (Some b) w e = let f : (a, b) ≡ w = cc in (ap (λ (z : _ × _). Some z.0) f, ap (λ (z : _ × _). Some z.1) f)
+
+pub word_is : (line : List ℕ) (at v : ℕ) → word_at line at ≡ Some v → (digits_at line at 16 ≡ true) × (value_at line at 16 ≡ v)
+unfolding word_at
+word_is line at v = go (digits_at line at 16) (value_at line at 16)
+  where
+    go : (t : Bool) (x : ℕ) → cond t (Some x) None ≡ Some v → (t ≡ true) × (x ≡ v)
+    go true x e = (refl, cc)
+    go false x e = absurd (cc)
+
 -- a field of 32 bytes is its two words' digits
-field_exact : (line : List ℕ) (at : ℕ) → (field_at line at).ok ≡ true → at + 32 ≤ length line
-    → drop at line ≡ pair_text (field_at line at).first (field_at line at).second ++ drop (at + 32) line
-unfolding field_at word_at pair_text
-field_exact line at e h =
-    let a = digits 16 16 (value_at line at 16) in
-    let b = digits 16 16 (value_at line (at + 16) 16) in
+pub field_exact : (line : List ℕ) (at : ℕ) (w : ℕ × ℕ) → field_at line at ≡ Some w → at + 32 ≤ length line
+    → drop at line ≡ pair_text w.0 w.1 ++ drop (at + 32) line
+unfolding field_at pair_text
+field_exact line at w e h =
+    let words = both_is (word_at line at) (word_at line (at + 16)) w e in
+    let x = word_is line at w.0 words.0 in
+    let y = word_is line (at + 16) w.1 words.1 in
     let far : at + 16 + 16 ≡ at + 32 = omega arith in
-    digits_exact line at 16 (and_l (digits_at line at 16) (digits_at line (at + 16) 16) e) (omega arith)
-    ∙ ap (λ (t : List ℕ). a ++ t)
-    (digits_exact line (at + 16) 16 (and_r (digits_at line at 16) (digits_at line (at + 16) 16) e) (omega arith)
-    ∙ ap (λ (k : ℕ). b ++ drop k line) far)
-    ∙ sym (append_assoc a b (drop (at + 32) line))
+    digits_exact line at 16 x.0 (omega arith)
+    ∙ ap (λ (v : ℕ). hex_of v ++ drop (at + 16) line) x.1
+    ∙ ap (λ (t : List ℕ). hex_of w.0 ++ t)
+    (digits_exact line (at + 16) 16 y.0 (omega arith)
+    ∙ ap (λ (v : ℕ). hex_of v ++ drop (at + 16 + 16) line) y.1
+    ∙ ap (λ (k : ℕ). hex_of w.1 ++ drop k line) far)
+    ∙ sym (append_assoc (hex_of w.0) (hex_of w.1) (drop (at + 32) line))
 
 -- the text of a key, and of a key and a value, behind a letter
 unfoldable pub key_text : ℕ → Key → List ℕ
@@ -89,33 +103,33 @@ none_left : (line : List ℕ) (at : ℕ) → length line ≡ at → drop at line
 none_left line at e = ap (λ (k : ℕ). drop k line) (sym e) ∙ drop-length line
 
 -- a space and the field behind it
-spaced : (line : List ℕ) (at : ℕ) → get_or line at 0 ≡ 32 → (field_at line (suc at)).ok ≡ true → at + 33 ≤ length line
-    → drop at line ≡ (32 ∷ pair_text (field_at line (suc at)).first (field_at line (suc at)).second) ++ drop (at + 33) line
-spaced line at s ok h =
+spaced : (line : List ℕ) (at : ℕ) (w : ℕ × ℕ) → get_or line at 0 ≡ 32 → field_at line (suc at) ≡ Some w → at + 33 ≤ length line
+    → drop at line ≡ (32 ∷ pair_text w.0 w.1) ++ drop (at + 33) line
+spaced line at w s f h =
     let far : suc at + 32 ≡ at + 33 = omega arith in
-    byte line at 32 (omega arith) s ∙ ap (λ (t : List ℕ). 32 ∷ t) (rw far at (field_exact line (suc at) ok (omega arith)))
+    byte line at 32 (omega arith) s ∙ ap (λ (t : List ℕ). 32 ∷ t) (rw far at (field_exact line (suc at) w f (omega arith)))
 
 -- the last one
-spaced_last : (line : List ℕ) (at : ℕ) → get_or line at 0 ≡ 32 → (field_at line (suc at)).ok ≡ true → length line ≡ at + 33
-    → drop at line ≡ 32 ∷ pair_text (field_at line (suc at)).first (field_at line (suc at)).second
-spaced_last line at s ok n =
-    let f : List ℕ = 32 ∷ pair_text (field_at line (suc at)).first (field_at line (suc at)).second in
-    spaced line at s ok (omega arith) ∙ ap (λ (t : List ℕ). f ++ t) (none_left line (at + 33) n) ∙ append-nil f
+spaced_last : (line : List ℕ) (at : ℕ) (w : ℕ × ℕ) → get_or line at 0 ≡ 32 → field_at line (suc at) ≡ Some w → length line ≡ at + 33
+    → drop at line ≡ 32 ∷ pair_text w.0 w.1
+spaced_last line at w s f n =
+    let t : List ℕ = 32 ∷ pair_text w.0 w.1 in
+    spaced line at w s f (omega arith) ∙ ap (λ (l : List ℕ). t ++ l) (none_left line (at + 33) n) ∙ append-nil t
 
-one_text_lem : (line : List ℕ) (letter : ℕ) → length line ≡ 34 → get_or line 0 0 ≡ letter → get_or line 1 0 ≡ 32 → (field_at line 2).ok ≡ true
-    → line ≡ key_text letter (key_from (field_at line 2))
+one_text_lem : (line : List ℕ) (letter : ℕ) (w : ℕ × ℕ) → length line ≡ 34 → get_or line 0 0 ≡ letter → get_or line 1 0 ≡ 32 → field_at line 2 ≡ Some w
+    → line ≡ key_text letter (key_from w)
 unfolding key_text
-one_text_lem line letter n e s ok = byte line 0 letter (omega arith) e ∙ ap (λ (t : List ℕ). letter ∷ t) (spaced_last line 1 s ok n)
+one_text_lem line letter w n e s f = byte line 0 letter (omega arith) e ∙ ap (λ (t : List ℕ). letter ∷ t) (spaced_last line 1 w s f n)
 
-two_text : (line : List ℕ) (letter : ℕ) → length line ≡ 67 → get_or line 0 0 ≡ letter → get_or line 1 0 ≡ 32 → get_or line 34 0 ≡ 32
-    → (field_at line 2).ok ≡ true → (field_at line 35).ok ≡ true
-    → line ≡ both_text letter (key_from (field_at line 2)) (value_from (field_at line 35))
+two_text : (line : List ℕ) (letter : ℕ) (w : (ℕ × ℕ) × (ℕ × ℕ)) → length line ≡ 67 → get_or line 0 0 ≡ letter → get_or line 1 0 ≡ 32 → get_or line 34 0 ≡ 32
+    → field_at line 2 ≡ Some w.0 → field_at line 35 ≡ Some w.1
+    → line ≡ both_text letter (key_from w.0) (value_from w.1)
 unfolding both_text
-two_text line letter n e s s' ok ok' =
+two_text line letter w n e s s' f g =
     byte line 0 letter (omega arith) e
     ∙ ap (λ (t : List ℕ). letter ∷ t)
-    (spaced line 1 s ok (omega arith)
-    ∙ ap (λ (t : List ℕ). (32 ∷ pair_text (field_at line 2).first (field_at line 2).second) ++ t) (spaced_last line 34 s' ok' n))
+    (spaced line 1 w.0 s f (omega arith)
+    ∙ ap (λ (t : List ℕ). (32 ∷ pair_text w.0.0 w.0.1) ++ t) (spaced_last line 34 w.1 s' g n))
 
 -- ---- lines
 
@@ -146,26 +160,34 @@ pub pick : {A : Type 0} (P : A → Type 0) (b : Bool) (x y : A) → (b ≡ true 
 pick P true x y f g = f refl
 pick P false x y f g = g
 
+-- a property of what is made of an answer
+pub mapped : {A B : Type 0} (P : Option B → Type 0) (make : A → B) (x : Option A) → ((a : A) → x ≡ Some a → P (Some (make a))) → P None → P (option_map make x)
+mapped P make None f g = g
+mapped P make (Some a) f g = f a refl
+
 -- the fields, and a property of what is made of them
-pub one_cases : (P : OneField → Type 0) (line : List ℕ)
-    → (length line ≡ 34 → get_or line 1 0 ≡ 32 → (field_at line 2).ok ≡ true → P (one.Is (key_from (field_at line 2))))
-    → P one.Not → P (one_field line)
+pub one_cases : (P : Option Key → Type 0) (line : List ℕ)
+    → ((w : ℕ × ℕ) → length line ≡ 34 → get_or line 1 0 ≡ 32 → field_at line 2 ≡ Some w → P (Some (key_from w)))
+    → P None → P (one_field line)
 unfolding one_field
 one_cases P line f g =
     pick P (eqb (length line) 34) _ _
-    (λ e. pick P (eqb (get_or line 1 0) 32 && (field_at line 2).ok) _ _ (λ t. f (eqb-true _ 34 e) (eqb-true _ 32 (search (and_l, and_r))) (search (and_l, and_r))) g) g
+    (λ e. pick P (eqb (get_or line 1 0) 32) _ _ (λ t. mapped P key_from (field_at line 2) (λ w. f w (eqb-true _ 34 e) (eqb-true _ 32 t)) g) g) g
 
-pub two_cases : (P : TwoFields → Type 0) (line : List ℕ)
-    → (length line ≡ 67 → get_or line 1 0 ≡ 32 → get_or line 34 0 ≡ 32 → (field_at line 2).ok ≡ true → (field_at line 35).ok ≡ true
-    → P (two.Are (key_from (field_at line 2)) (value_from (field_at line 35))))
-    → P two.Not → P (two_fields line)
+pub two_cases : (P : Option (Key × Value) → Type 0) (line : List ℕ)
+    → ((w : (ℕ × ℕ) × (ℕ × ℕ)) → length line ≡ 67 → get_or line 1 0 ≡ 32 → get_or line 34 0 ≡ 32 → field_at line 2 ≡ Some w.0 → field_at line 35 ≡ Some w.1
+    → P (Some (both_from w)))
+    → P None → P (two_fields line)
 unfolding two_fields
 two_cases P line f g =
     pick P (eqb (length line) 67) _ _
     (λ e.
-    pick P (eqb (get_or line 1 0) 32 && eqb (get_or line 34 0) 32 && (field_at line 2).ok && (field_at line 35).ok) _ _
+    pick P (eqb (get_or line 1 0) 32 && eqb (get_or line 34 0) 32) _ _
     (λ t.
-    f (eqb-true _ 67 e) (eqb-true _ 32 (search (and_l, and_r))) (eqb-true _ 32 (search (and_l, and_r))) (search (and_l, and_r)) (search (and_l, and_r))) g) g
+    mapped P both_from (both (field_at line 2) (field_at line 35))
+    (λ w h.
+    let fields = both_is (field_at line 2) (field_at line 35) w h in
+    f w (eqb-true _ 67 e) (eqb-true _ 32 (search (and_l, and_r))) (eqb-true _ 32 (search (and_l, and_r))) fields.0 fields.1) g) g) g
 
 module _ (line : List ℕ) where
   alone_case : (letter : ℕ) (c : Command) → get_or line 0 0 ≡ letter → (line ≡ letter ∷ [] → Spells line c) → Spells line (alone_asked line c)
@@ -180,12 +202,12 @@ module _ (line : List ℕ) where
   key_case : (letter : ℕ) (ask : Key → Command) → get_or line 0 0 ≡ letter → ((key : Key) → line ≡ key_text letter key → Spells line (ask key))
       → Spells line (key_asked ask (one_field line))
   unfolding key_asked Spells
-  key_case letter ask e f = one_cases (λ x. Spells line (key_asked ask x)) line (λ n s ok. f _ (one_text_lem line letter n e s ok)) tt
+  key_case letter ask e f = one_cases (λ x. Spells line (key_asked ask x)) line (λ w n s h. f _ (one_text_lem line letter w n e s h)) tt
 
   both_case : (letter : ℕ) (ask : Key → Value → Command) → get_or line 0 0 ≡ letter → ((key : Key) (v : Value) → line ≡ both_text letter key v → Spells line (ask key v))
       → Spells line (both_asked ask (two_fields line))
   unfolding both_asked Spells
-  both_case letter ask e f = two_cases (λ x. Spells line (both_asked ask x)) line (λ n s s' ok ok'. f _ _ (two_text line letter n e s s' ok ok')) tt
+  both_case letter ask e f = two_cases (λ x. Spells line (both_asked ask x)) line (λ w n s s' h h'. f _ _ (two_text line letter w n e s s' h h')) tt
 
   -- every line is the text of what it asks, or bad
   pub spelled : Spells line (command_of line)

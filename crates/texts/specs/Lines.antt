@@ -1,63 +1,61 @@
 -- What a line asks: the rules C, "The first byte of a line picks the command; one space parts the fields; keys and values are 32 lowercase hex digits, high or first word first". Anything else on a line
 -- is bad: other letters, other bytes, other lengths, so also an empty line and one of more than 80 bytes.
-use Rattle.std.specs.Prelude.{List, cond, ◌&&◌, ℕ, ◌+◌, length, get_or, eqb}
+use Rattle.std.specs.Prelude.{List, cond, ◌&&◌, ℕ, ◌+◌, length, get_or, eqb, Option, Some, None, option_map}
 use Rattle.keys.specs.declared.Key.{Key}
 use Rattle.records.specs.declared.Value.{Value}
-use Rattle.texts.specs.declared.Word.{Word}
-use Rattle.texts.specs.declared.Field.{Field}
-use Rattle.texts.specs.declared.OneField.{OneField}
-use Rattle.texts.specs.declared.OneField.TheVariants as one
-use Rattle.texts.specs.declared.TwoFields.{TwoFields}
-use Rattle.texts.specs.declared.TwoFields.TheVariants as two
 use Rattle.texts.specs.declared.Command.{Command}
 use Rattle.texts.specs.declared.Command.TheVariants as command
 use Rattle.texts.specs.Digits.{digits_at, value_at}
 
 -- ---- fields
 
-unfoldable pub word_at : List ℕ → ℕ → Word
-word_at line at = record { ok = digits_at line at 16; value = value_at line at 16 }
+-- two answers, where both are there
+unfoldable pub both : {A B : Type 0} → Option A → Option B → Option (A × B)
+both None y = None
+both (Some a) None = None
+both (Some a) (Some b) = Some (a, b)
 
-unfoldable pub field_at : List ℕ → ℕ → Field
-field_at line at =
-    record {
-      ok = (word_at line at).ok && (word_at line (at + 16)).ok;
-      first = (word_at line at).value;
-      second = (word_at line (at + 16)).value;
-    }
+-- sixteen hex digits: their number
+unfoldable pub word_at : List ℕ → ℕ → Option ℕ
+word_at line at = cond (digits_at line at 16) (Some (value_at line at 16)) None
 
-abbrev pub key_from : Field → Key
-key_from f = record { high = f.first; low = f.second }
+-- thirty-two: two numbers, high or first word first
+unfoldable pub field_at : List ℕ → ℕ → Option (ℕ × ℕ)
+field_at line at = both (word_at line at) (word_at line (at + 16))
 
-abbrev pub value_from : Field → Value
-value_from f = record { first = f.first; second = f.second }
+abbrev pub key_from : ℕ × ℕ → Key
+key_from f = record { high = f.0; low = f.1 }
+
+abbrev pub value_from : ℕ × ℕ → Value
+value_from f = record { first = f.0; second = f.1 }
+
+abbrev pub both_from : (ℕ × ℕ) × (ℕ × ℕ) → Key × Value
+both_from f = (key_from f.0, value_from f.1)
 
 -- a letter, a space (32), a key: 34 bytes
-unfoldable pub one_field : List ℕ → OneField
+unfoldable pub one_field : List ℕ → Option Key
 one_field line =
     cond (eqb (length line) 34)
-    (cond (eqb (get_or line 1 0) 32 && (field_at line 2).ok) (one.Is (key_from (field_at line 2))) one.Not)
-    one.Not
+    (cond (eqb (get_or line 1 0) 32) (option_map key_from (field_at line 2)) None)
+    None
 
 -- a letter, a space, a key, a space, a value: 67 bytes
-unfoldable pub two_fields : List ℕ → TwoFields
+unfoldable pub two_fields : List ℕ → Option (Key × Value)
 two_fields line =
     cond (eqb (length line) 67)
-    (cond (eqb (get_or line 1 0) 32 && eqb (get_or line 34 0) 32 && (field_at line 2).ok && (field_at line 35).ok)
-    (two.Are (key_from (field_at line 2)) (value_from (field_at line 35)))
-    two.Not)
-    two.Not
+    (cond (eqb (get_or line 1 0) 32 && eqb (get_or line 34 0) 32) (option_map both_from (both (field_at line 2) (field_at line 35))) None)
+    None
 
 -- ---- commands
 
 -- a command with a key, and one with a key and a value; where they do not stand on the line, it is bad
-unfoldable pub key_asked : (Key → Command) → OneField → Command
-key_asked ask (one.Is key) = ask key
-key_asked ask one.Not = command.Bad
+unfoldable pub key_asked : (Key → Command) → Option Key → Command
+key_asked ask (Some key) = ask key
+key_asked ask None = command.Bad
 
-unfoldable pub both_asked : (Key → Value → Command) → TwoFields → Command
-both_asked ask (two.Are key v) = ask key v
-both_asked ask two.Not = command.Bad
+unfoldable pub both_asked : (Key → Value → Command) → Option (Key × Value) → Command
+both_asked ask (Some (key, v)) = ask key v
+both_asked ask None = command.Bad
 
 -- a letter alone: one byte
 unfoldable pub alone_asked : List ℕ → Command → Command

@@ -1,16 +1,14 @@
 -- The other way round from Exact: the text of a command asks for that command. Keys and values are of 64-bit words.
-use Rattle.std.specs.Prelude.{◌≡◌, refl, List, [], ◌∷◌, ◌++◌, Bool, true, false, ◌⊎◌, ℕ, zero, suc, ◌+◌, ◌*◌, ◌-◌, ◌/◌, ◌%◌, ◌^◌, ◌<◌, ◌≤◌, length, get_or, drop, ltb, eqb}
+use Rattle.std.specs.Prelude.{◌≡◌, refl, List, [], ◌∷◌, ◌++◌, Bool, true, false, ◌⊎◌, ℕ, zero, suc, ◌+◌, ◌*◌, ◌-◌, ◌/◌, ◌%◌, ◌^◌, ◌<◌, ◌≤◌, length, get_or, drop, ltb, eqb, Some}
 use Rattle.std.proofs.Common.{sym, ap, ◌∙◌, append_assoc, append-nil, inl, inr, ⊎_elim, pow-suc, arith, length-append, get_or-drop, drop-drop, drop_at, ltb-true, ltb-false, lt-ltb, le-ltb, le-leb, eq-eqb, ne_eqb}
 use Rattle.std.proofs.lemmas.List.{get_or_at}
 use Rattle.std.proofs.lemmas.Bool.{lt-leb}
 use Rattle.keys.specs.declared.Key.{Key}
 use Rattle.records.specs.declared.Value.{Value}
-use Rattle.texts.specs.declared.OneField.TheVariants as one
-use Rattle.texts.specs.declared.TwoFields.TheVariants as two
 use Rattle.texts.specs.declared.Command.{Command}
 use Rattle.texts.specs.declared.Command.TheVariants as command
 use Rattle.texts.specs.Digits.{glyph, digits, digits_length, hex_of, is_digit, digit_of, digits_at, value_at}
-use Rattle.texts.specs.Lines.{word_at, field_at, one_field, two_fields, key_asked, both_asked, alone_asked, letter_asked, command_of}
+use Rattle.texts.specs.Lines.{both, word_at, field_at, one_field, two_fields, key_asked, both_asked, alone_asked, letter_asked, command_of}
 use Rattle.texts.specs.Texts.{pair_text}
 use Rattle.texts.specs.Exact.{key_text, both_text, line_text}
 
@@ -62,16 +60,15 @@ digits_spelled line at (suc k) n t e h =
 
 -- ---- fields
 
-field_spelled : (line : List ℕ) (at a b : ℕ) (t : List ℕ) → drop at line ≡ pair_text a b ++ t → a < 2 ^ 64 → b < 2 ^ 64
-    → ((field_at line at).ok ≡ true) × ((field_at line at).first ≡ a) × ((field_at line at).second ≡ b)
-unfolding field_at word_at pair_text
+field_spelled : (line : List ℕ) (at a b : ℕ) (t : List ℕ) → drop at line ≡ pair_text a b ++ t → a < 2 ^ 64 → b < 2 ^ 64 → field_at line at ≡ Some (a, b)
+unfolding field_at word_at both pair_text
 field_spelled line at a b t e ha hb =
     let f : drop at line ≡ hex_of a ++ (hex_of b ++ t) = e ∙ append_assoc (hex_of a) (hex_of b) t in
     let g : drop (at + 16) line ≡ hex_of b ++ t =
     sym (drop-drop 16 at line) ∙ ap (λ (l : List ℕ). drop 16 l) f ∙ drop_at (hex_of a) (hex_of b ++ t) 16 (digits_length 16 16 a) in
     let x = digits_spelled line at 16 a (hex_of b ++ t) f ha in
     let y = digits_spelled line (at + 16) 16 b t g hb in
-    (simp (x.0, y.0), x.1, y.1)
+    rw (x.0, y.0, x.1, y.1) refl
 
 pair_length : (a b : ℕ) → length (pair_text a b) ≡ 32
 unfolding pair_text
@@ -84,16 +81,16 @@ KeyFits key = (key.high < 2 ^ 64) × (key.low < 2 ^ 64)
 abbrev pub ValueFits : Value → Type 0
 ValueFits v = (v.first < 2 ^ 64) × (v.second < 2 ^ 64)
 
-one_spelled : (letter : ℕ) (key : Key) → KeyFits key → one_field (key_text letter key) ≡ one.Is key
-unfolding one_field key_text
+one_spelled : (letter : ℕ) (key : Key) → KeyFits key → one_field (key_text letter key) ≡ Some key
+unfolding one_field both key_text
 one_spelled letter key h =
     let p = pair_text key.high key.low in
     let n : length (letter ∷ 32 ∷ p) ≡ 34 = omega (arith, pair_length key.high key.low) in
     let f = field_spelled (letter ∷ 32 ∷ p) 2 key.high key.low [] (sym (append-nil p)) h.0 h.1 in
-    simp (eq-eqb (length (letter ∷ 32 ∷ p)) 34 n, f.0) (ap one.Is (λ ι. record { high = f.1 ι; low = f.2 ι }))
+    simp (eq-eqb (length (letter ∷ 32 ∷ p)) 34 n, f)
 
-two_spelled : (letter : ℕ) (key : Key) (v : Value) → KeyFits key → ValueFits v → two_fields (both_text letter key v) ≡ two.Are key v
-unfolding two_fields both_text
+two_spelled : (letter : ℕ) (key : Key) (v : Value) → KeyFits key → ValueFits v → two_fields (both_text letter key v) ≡ Some (key, v)
+unfolding two_fields both both_text
 two_spelled letter key v h i =
     let p = pair_text key.high key.low in
     let q = pair_text v.first v.second in
@@ -104,8 +101,7 @@ two_spelled letter key v h i =
     let s : get_or l 34 0 ≡ 32 = sym (get_or-drop 34 l 0 0) ∙ ap (λ (t : List ℕ). get_or t 0 0) at34 in
     let at35 : drop 35 l ≡ q ++ [] = sym (drop-drop 1 34 l) ∙ ap (λ (t : List ℕ). drop 1 t) at34 ∙ sym (append-nil q) in
     let g = field_spelled l 35 v.first v.second [] at35 i.0 i.1 in
-    simp (eq-eqb (length l) 67 n, eq-eqb (get_or l 34 0) 32 s, f.0, g.0)
-    (λ ι. two.Are (record { high = f.1 ι; low = f.2 ι }) (record { first = g.1 ι; second = g.2 ι }))
+    simp (eq-eqb (length l) 67 n, eq-eqb (get_or l 34 0) 32 s, f, g)
 
 -- ---- lines
 

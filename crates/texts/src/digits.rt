@@ -1,53 +1,38 @@
 // Numbers out of a line: lowercase hex digits, high or first word first.
-ghost use Rattle.std.specs.Prelude.{◌≡◌, ◌+◌, ◌<◌, ◌≤◌, length};
+ghost use Rattle.std.specs.Prelude.{◌≡◌, ◌+◌, ◌≤◌, length, cond, Some, None};
 ghost use Rattle.texts.specs.Digits.{is_digit, digit_of};
 ghost use Rattle.texts.specs.Lines.{word_at, field_at};
 
-use crate::{Field, Word};
-
-fn is_digit(b: u8) -> bool
-    ensures { result ≡ is_digit b }
+// What a lowercase hex digit stands for. `to_digit` and `from_str_radix` would take upper-case digits too.
+#[tactic(auto, using(std::proofs::lemmas::Bool::Decides::nat_tests), unfolding(crate::specs::Digits::is_digit, crate::specs::Digits::digit_of))]
+fn digit(b: u8) -> Option<u64>
+    ensures { result ≡ cond (is_digit b) (Some (digit_of b)) None }
 {
-    ((48 <= b) & (b <= 57)) | ((97 <= b) & (b <= 102))
+    match b {
+        b'0'..=b'9' => Some((b - b'0') as u64),
+        b'a'..=b'f' => Some((b - b'a') as u64 + 10),
+        _ => None,
+    }
 }
 
-fn digit(b: u8) -> u64
-    ensures { (result ≡ digit_of b) × (result < 16) }
-{
-    if (97 <= b) & (b <= 102) {
-        return (b - 87) as u64;
-    }
-    if (48 <= b) & (b <= 57) {
-        return (b - 48) as u64;
-    }
-    0
-}
-
-fn word_at(line: &[u8], at: usize) -> Word
+// Sixteen digits, most significant first; nothing where a byte is no digit.
+fn word_at(line: &[u8], at: usize) -> Option<u64>
     requires { at + 16 ≤ length line.now }
     ensures { result ≡ word_at line.now at }
 {
-    let mut ok = true;
     let mut value: u64 = 0;
-    let mut k: usize = 0;
-    while k < 16 {
-        let b = line[at + k];
-        ok = ok & is_digit(b);
-        value = 16 * value + digit(b);
-        k += 1;
+    for b in &line[at..at + 16] {
+        value = 16 * value + digit(*b)?;
     }
-    Word { ok, value }
+    Some(value)
 }
 
-pub fn field_at(line: &[u8], at: usize) -> Field
+// The two words of a field.
+pub fn field_at(line: &[u8], at: usize) -> Option<(u64, u64)>
     requires { at + 32 ≤ length line.now }
     ensures { result ≡ field_at line.now at }
 {
-    let a = word_at(line, at);
-    let b = word_at(line, at + 16);
-    Field {
-        ok: a.ok & b.ok,
-        first: a.value,
-        second: b.value,
-    }
+    let first = word_at(line, at)?;
+    let second = word_at(line, at + 16)?;
+    Some((first, second))
 }

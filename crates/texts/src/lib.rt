@@ -20,32 +20,3 @@ pub enum Command {
     All,
     Bad,
 }
-
-// Sixteen bytes of a line, read as hex digits.
-#[derive(Clone, Copy)]
-pub struct Word {
-    pub ok: bool,
-    pub value: u64,
-}
-
-// Thirty-two bytes of a line, read as hex digits, high or first word first.
-#[derive(Clone, Copy)]
-pub struct Field {
-    pub ok: bool,
-    pub first: u64,
-    pub second: u64,
-}
-
-// What stands behind the letter of a line with a key.
-#[derive(Clone, Copy)]
-pub enum OneField {
-    Is(Key),
-    Not,
-}
-
-// What stands behind the letter of a line with a key and a value.
-#[derive(Clone, Copy)]
-pub enum TwoFields {
-    Are(Key, Value),
-    Not,
-}

@@ -1,88 +1,64 @@
 // What a line asks: its first byte picks the command, one space parts the fields, and nothing else stands on the line.
-ghost use Rattle.std.specs.Prelude.{◌≡◌};
-ghost use Rattle.texts.specs.Lines.{one_field, two_fields, alone_asked, command_of};
+ghost use Rattle.std.specs.Prelude.{◌≡◌, unwrap_or};
+ghost use Rattle.texts.specs.declared.Command.TheVariants.{Bad};
+ghost use Rattle.texts.specs.Lines.{one_field, two_fields, command_of};
 
+use crate::Command;
 use crate::digits::field_at;
-use crate::{Command, OneField, TwoFields};
 use keys::Key;
 use records::Value;
 
 // A key behind the letter.
-fn one_field(line: &[u8]) -> OneField
+#[tactic(auto, using(std::proofs::lemmas::Bool::Decides::nat_tests), unfolding(crate::specs::Lines::one_field))]
+fn one_field(line: &[u8]) -> Option<Key>
     ensures { result ≡ one_field line.now }
 {
-    if line.len() == 34 {
-        let f = field_at(line, 2);
-        if (line[1] == 32) & f.ok {
-            return OneField::Is(Key {
-                high: f.first,
-                low: f.second,
-            });
-        }
+    if line.len() != 34 || line[1] != b' ' {
+        return None;
     }
-    OneField::Not
+    let (high, low) = field_at(line, 2)?;
+    Some(Key { high, low })
 }
 
 // A key and a value behind the letter.
-fn two_fields(line: &[u8]) -> TwoFields
+#[tactic(auto, using(std::proofs::lemmas::Bool::Decides::nat_tests), unfolding(crate::specs::Lines::two_fields, crate::specs::Lines::both))]
+fn two_fields(line: &[u8]) -> Option<(Key, Value)>
     ensures { result ≡ two_fields line.now }
 {
-    if line.len() == 67 {
-        let f = field_at(line, 2);
-        let g = field_at(line, 35);
-        if (line[1] == 32) & (line[34] == 32) & f.ok & g.ok {
-            return TwoFields::Are(
-                Key {
-                    high: f.first,
-                    low: f.second,
-                },
-                Value {
-                    first: g.first,
-                    second: g.second,
-                },
-            );
-        }
+    if line.len() != 67 || line[1] != b' ' || line[34] != b' ' {
+        return None;
     }
-    TwoFields::Not
+    let (high, low) = field_at(line, 2)?;
+    let (first, second) = field_at(line, 35)?;
+    Some((Key { high, low }, Value { first, second }))
 }
 
-// The letter alone.
-fn alone(line: &[u8], c: Command) -> Command
-    ensures { result ≡ alone_asked line.now c }
+// What a line asks, where it asks something.
+#[tactic(auto, using(std::proofs::lemmas::Bool::Decides::nat_tests), unfolding(crate::specs::Lines::command_of, crate::specs::Lines::letter_asked, crate::specs::Lines::alone_asked, crate::specs::Lines::key_asked, crate::specs::Lines::both_asked))]
+fn asked(line: &[u8]) -> Option<Command>
+    ensures { unwrap_or result Bad ≡ command_of line.now }
 {
-    if line.len() == 1 {
-        return c;
+    match line {
+        [b'i', ..] => {
+            let (key, v) = two_fields(line)?;
+            Some(Command::Insert(key, v))
+        }
+        [b'r', ..] => Some(Command::Remove(one_field(line)?)),
+        [b'g', ..] => Some(Command::Get(one_field(line)?)),
+        [b'w', ..] => {
+            let (key, v) = two_fields(line)?;
+            Some(Command::Write(key, v))
+        }
+        [b'n'] => Some(Command::Smallest),
+        [b'x'] => Some(Command::Largest),
+        [b'a'] => Some(Command::All),
+        _ => None,
     }
-    Command::Bad
 }
 
 // What a line asks; anything else is bad.
 pub fn parse(line: &[u8]) -> Command
     ensures { result ≡ command_of line.now }
 {
-    if line.len() == 0 {
-        return Command::Bad;
-    }
-    match line[0] {
-        b'i' => match two_fields(line) {
-            TwoFields::Are(key, v) => Command::Insert(key, v),
-            TwoFields::Not => Command::Bad,
-        },
-        b'r' => match one_field(line) {
-            OneField::Is(key) => Command::Remove(key),
-            OneField::Not => Command::Bad,
-        },
-        b'g' => match one_field(line) {
-            OneField::Is(key) => Command::Get(key),
-            OneField::Not => Command::Bad,
-        },
-        b'w' => match two_fields(line) {
-            TwoFields::Are(key, v) => Command::Write(key, v),
-            TwoFields::Not => Command::Bad,
-        },
-        b'n' => alone(line, Command::Smallest),
-        b'x' => alone(line, Command::Largest),
-        b'a' => alone(line, Command::All),
-        _ => Command::Bad,
-    }
+    asked(line).unwrap_or(Command::Bad)
 }

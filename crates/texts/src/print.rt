@@ -1,4 +1,6 @@
 // Bytes and numbers into the output buffer, from a place on; each function answers the place behind.
+// By hand and not by `Display`: memory is fixed, and `Written` (specs/Put.antt) names each byte of a buffer that is lent.
+// The buffer and the place are two parameters: `Written`, and the theorems `answered_once` and `finished_once` above it, speak of one buffer and several places.
 ghost use Rattle.std.specs.Prelude.{◌≡◌, [], ◌∷◌, ◌++◌, ◌+◌, ◌<◌, ◌≤◌, length};
 ghost use Rattle.texts.specs.Put.{Written};
 ghost use Rattle.texts.specs.Digits.{digits, hex_of, width_of, decimal_of};
@@ -6,47 +8,26 @@ ghost use Rattle.texts.specs.Texts.{newline, pair_text, bad_text, end_text, valu
 ghost use Rattle.texts.specs.Digits.{glyph as digit_glyph};
 
 use keys::Key;
-use records::{Refusal, Value, number};
+use records::{Refusal, Value};
 
-// One byte.
-pub fn put_byte(out: &mut [u8], at: usize, b: u8) -> usize
-    requires { at < length out.old }
-    ensures place { result ≡ at + 1 }
-    ensures text { Written out.old out.new at result (b ∷ []) }
+// A text.
+pub fn put_text(out: &mut [u8], at: usize, text: &[u8]) -> usize
+    requires { at + length text.now ≤ length out.old }
+    ensures place { result ≡ at + length text.now }
+    ensures text { Written out.old out.new at result text.now }
 {
-    out[at] = b;
-    at + 1
-}
-
-// Four bytes.
-pub fn put_four(out: &mut [u8], at: usize, a: u8, b: u8, c: u8, d: u8) -> usize
-    requires { at + 4 ≤ length out.old }
-    ensures place { result ≡ at + 4 }
-    ensures text { Written out.old out.new at result (a ∷ b ∷ c ∷ d ∷ []) }
-{
-    out[at] = a;
-    out[at + 1] = b;
-    out[at + 2] = c;
-    out[at + 3] = d;
-    at + 4
-}
-
-// Four bytes, as one line.
-fn put_line(out: &mut [u8], at: usize, a: u8, b: u8, c: u8, d: u8) -> usize
-    requires { at + 5 ≤ length out.old }
-    ensures place { result ≡ at + 5 }
-    ensures text { Written out.old out.new at result ((a ∷ b ∷ c ∷ d ∷ []) ++ newline) }
-{
-    let end = put_four(out, at, a, b, c, d);
-    put_byte(out, end, b'\n')
+    let end = at + text.len();
+    out[at..end].copy_from_slice(text);
+    end
 }
 
 // The byte of a digit.
+#[tactic(auto, using(std::proofs::lemmas::Bool::Decides::nat_tests), unfolding(crate::specs::Digits::glyph))]
 fn glyph(d: u8) -> u8
     requires { d < 16 }
     ensures { result ≡ digit_glyph d }
 {
-    if d < 10 { 48 + d } else { 87 + d }
+    if d < 10 { b'0' + d } else { b'a' - 10 + d }
 }
 
 // The last digits of a number, so many, in a base from 2 to 16.
@@ -55,10 +36,8 @@ fn put_digits(out: &mut [u8], at: usize, n: u32, base: u32, many: usize) -> usiz
     ensures place { result ≡ at + many }
     ensures text { Written out.old out.new at result (digits base many n) }
 {
-    let mut k = many;
     let mut rest = n;
-    while 0 < k {
-        k -= 1;
+    for k in (0..many).rev() {
         out[at + k] = glyph((rest % base) as u8);
         rest /= base;
     }
@@ -79,34 +58,10 @@ fn put_hex(out: &mut [u8], at: usize, n: u64) -> usize
 fn width(n: u32) -> usize
     ensures { (result ≡ width_of n) × (result ≤ 10) }
 {
-    if n < 10 {
-        return 1;
+    match n.checked_ilog10() {
+        Some(k) => k as usize + 1,
+        None => 1,
     }
-    if n < 100 {
-        return 2;
-    }
-    if n < 1000 {
-        return 3;
-    }
-    if n < 10000 {
-        return 4;
-    }
-    if n < 100000 {
-        return 5;
-    }
-    if n < 1000000 {
-        return 6;
-    }
-    if n < 10000000 {
-        return 7;
-    }
-    if n < 100000000 {
-        return 8;
-    }
-    if n < 1000000000 {
-        return 9;
-    }
-    10
 }
 
 // A number in decimal.
@@ -134,7 +89,7 @@ pub fn put_bad(out: &mut [u8], at: usize) -> usize
     ensures place { result ≡ at + 4 }
     ensures text { Written out.old out.new at result bad_text }
 {
-    put_four(out, at, b'b', b'a', b'd', b'\n')
+    put_text(out, at, b"bad\n")
 }
 
 // `end COUNT`
@@ -143,9 +98,9 @@ pub fn put_end(out: &mut [u8], at: usize, count: u32) -> usize
     ensures room { result ≤ at + 15 }
     ensures text { Written out.old out.new at result (end_text count) }
 {
-    let a = put_four(out, at, b'e', b'n', b'd', b' ');
+    let a = put_text(out, at, b"end ");
     let b = put_decimal(out, a, count);
-    put_byte(out, b, b'\n')
+    put_text(out, b, b"\n")
 }
 
 // A value, and the line's end.
@@ -155,7 +110,7 @@ pub fn put_value(out: &mut [u8], at: usize, v: Value) -> usize
     ensures text { Written out.old out.new at result (value_text v) }
 {
     let a = put_pair(out, at, v.first, v.second);
-    put_byte(out, a, b'\n')
+    put_text(out, a, b"\n")
 }
 
 // A key and its value, as one line.
@@ -165,7 +120,7 @@ pub fn put_entry(out: &mut [u8], at: usize, key: Key, v: Value) -> usize
     ensures text { Written out.old out.new at result (entry_text key v) }
 {
     let a = put_pair(out, at, key.high, key.low);
-    let b = put_byte(out, a, b' ');
+    let b = put_text(out, a, b" ");
     put_value(out, b, v)
 }
 
@@ -175,12 +130,9 @@ pub fn put_refusal(out: &mut [u8], at: usize, why: Refusal) -> usize
     ensures room { result ≤ at + 5 }
     ensures text { Written out.old out.new at result (refusal_text why) }
 {
-    let no = number(why);
-    if no == 3 {
-        return put_line(out, at, b'f', b'u', b'l', b'l');
+    match why {
+        Refusal::Full => put_text(out, at, b"full\n"),
+        Refusal::Absent => put_text(out, at, b"none\n"),
+        _ => put_bad(out, at),
     }
-    if no == 4 {
-        return put_line(out, at, b'n', b'o', b'n', b'e');
-    }
-    put_bad(out, at)
 }

@@ -1,13 +1,25 @@
 -- `answer::answer_close` meets its contract. Assumes nothing.
-use native.Mathlib.Omega.{arith}
-use borrow.Author.Tests.{eq-eqb, ne_eqb}
+use Rattle.std.proofs.Common.{◌≡◌, ℕ, refl, arith}
+use Rattle.records.specs.declared.Refusal.{Refusal}
+use Rattle.records.specs.declared.Refusal.TheVariants as no
+use Rattle.records.specs.Numbers.{refusal_number}
+use Rattle.texts.specs.Texts.{bad_text}
 use Rattle.commands.specs.Answers.{close_text}
 use Rattle.commands.proofs.answer.answer_close.Goals as goal
 
-pub returns-then-number-eq4 : goal.returns-then-number-eq4
-unfolding close_text
-returns-then-number-eq4 c = record { room = omega arith; text = simp (← c.number.ensures, eq-eqb _ _ c.if-number-eq4.true) c.put_end.ensures.text }
+-- any refusal but that of the end
+other_close : (r : Refusal) (k : ℕ) → (r ≡ no.Absent → ⊥) → close_text r k ≡ bad_text
+unfolding close_text refusal_number
+other_close no.Shape k f = refl
+other_close no.Damaged k f = refl
+other_close no.Full k f = refl
+other_close no.Absent k f = absurd (f refl)
+other_close no.NotBlank k f = refl
+other_close no.Cursor k f = refl
 
-pub returns : goal.returns
-unfolding close_text
-returns c = record { room = omega arith; text = simp (← c.number.ensures, ne_eqb _ _ c.if-number-eq4.false) c.put_bad.ensures.text }
+pub returns-in-Absent-clause-text : goal.returns-in-Absent-clause-text
+unfolding close_text refusal_number
+returns-in-Absent-clause-text c = simp c.in-Absent.is c.put_end.ensures.text
+
+pub returns-in_default : goal.returns-in_default
+returns-in_default c = record { room = omega arith; text = simp (other_close c.args.why c.args.count c.in_default.not-Absent) c.put_bad.ensures.text }

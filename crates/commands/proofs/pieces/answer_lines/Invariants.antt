@@ -5,8 +5,8 @@ use lib.ListN.{length}
 use Rattle.commands.specs.Pieces.{Fed, Stopped, part}
 use Rattle.commands.proofs.pieces.answer_lines.Given as goal
 
-abbrev pub invariant-loop-start : goal.invariant-loop-start
-invariant-loop-start l = (l.from ≤ l.start) × (l.start ≤ l.end) × (l.place ≤ length l.out) × (length l.out ≡ length l.initial.out) × (length l.img ≡ length l.initial.img) × Fed l.long (part l.from l.start l.buf) l.initial.img l.img l.initial.out l.out l.at l.place l.over × Stopped l.long l.buf l.initial.img l.from l.at (length l.initial.out) l.start l.over
+abbrev pub invariant-loop-out : goal.invariant-loop-out
+invariant-loop-out l = (l.from ≤ l.start) × (l.start ≤ l.end) × (l.place ≤ length l.out) × (length l.out ≡ length l.initial.out) × (length l.img ≡ length l.initial.img) × Fed l.long (part l.from l.start l.buf) l.initial.img l.img l.initial.out l.out l.at l.place l.over × Stopped l.long l.buf l.initial.img l.from l.at (length l.initial.out) l.start l.over
 
-abbrev pub decreases-loop-start : goal.decreases-loop-start
-decreases-loop-start l = l.end - l.start
+abbrev pub decreases-loop-out : goal.decreases-loop-out
+decreases-loop-out l = l.end - l.start

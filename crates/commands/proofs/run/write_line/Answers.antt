@@ -5,7 +5,7 @@ use Rattle.commands.proofs.run.write_line.Goals as goal
 
 pub returns-in-Yes : goal.returns-in-Yes
 unfolding done_text
-returns-in-Yes c = record { room = omega arith; text = simp (← c.set.ensures.answer, c.in-Yes.is) c.put_four.ensures.text; image = c.set.ensures.image }
+returns-in-Yes c = record { room = omega arith; text = simp (← c.set.ensures.answer, c.in-Yes.is) c.put_text.ensures.text; image = c.set.ensures.image }
 
 pub returns-in-Refused : goal.returns-in-Refused
 unfolding done_text

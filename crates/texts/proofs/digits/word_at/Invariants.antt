@@ -1,11 +1,7 @@
--- `digits::word_at` meets its contract. The loop's invariant: the test and the number of the bytes read so far. The measure is how many are left. Assumes nothing.
-use mathlib.Core.Path.{◌≡◌}
-use Prim.Native.Nat.{◌≤◌, ◌-◌}
+-- `digits::word_at` meets its contract. The loop's invariant: the bytes read so far are digits, and their number. Assumes nothing.
+use Rattle.std.specs.Prelude.{◌≡◌, true}
 use Rattle.texts.specs.Digits.{digits_at, value_at}
 use Rattle.texts.proofs.digits.word_at.Given as goal
 
-abbrev pub invariant-loop-k : goal.invariant-loop-k
-invariant-loop-k l = (l.k ≤ 16) × (l.ok ≡ digits_at l.line l.at l.k) × (l.value ≡ value_at l.line l.at l.k)
-
-abbrev pub decreases-loop-k : goal.decreases-loop-k
-decreases-loop-k l = 16 - l.k
+abbrev pub invariant-loop-b : goal.invariant-loop-b
+invariant-loop-b l = (digits_at l.line l.at l.b-index ≡ true) × (l.value ≡ value_at l.line l.at l.b-index)

@@ -1,17 +1,29 @@
 -- `print::put_refusal` meets its contract. Assumes nothing.
-use native.Mathlib.Omega.{arith}
-use borrow.Author.Tests.{eq-eqb, ne_eqb}
-use Rattle.texts.specs.Texts.{refusal_text}
+use Rattle.std.proofs.Common.{◌≡◌, refl, arith}
+use Rattle.records.specs.declared.Refusal.{Refusal}
+use Rattle.records.specs.declared.Refusal.TheVariants as no
+use Rattle.records.specs.Numbers.{refusal_number}
+use Rattle.texts.specs.Texts.{refusal_text, bad_text}
 use Rattle.texts.proofs.print.put_refusal.Goals as goal
 
-pub returns-then-no-eq3 : goal.returns-then-no-eq3
-unfolding refusal_text
-returns-then-no-eq3 c = record { room = omega arith; text = simp (← c.number-no.ensures, eq-eqb _ _ c.if-no-eq3.true) c.put_line.ensures.text }
+-- any other refusal
+other_text : (r : Refusal) → (r ≡ no.Full → ⊥) → (r ≡ no.Absent → ⊥) → refusal_text r ≡ bad_text
+unfolding refusal_text refusal_number
+other_text no.Shape f g = refl
+other_text no.Damaged f g = refl
+other_text no.Full f g = absurd (f refl)
+other_text no.Absent f g = absurd (g refl)
+other_text no.NotBlank f g = refl
+other_text no.Cursor f g = refl
 
-pub returns-then-no-eq4 : goal.returns-then-no-eq4
-unfolding refusal_text
-returns-then-no-eq4 c = record { room = omega arith; text = simp (← c.number-no.ensures, ne_eqb _ _ c.if-no-eq3.false, eq-eqb _ _ c.if-no-eq4.true) c.put_line-then-no-eq4.ensures.text }
+pub returns-in-Full-clause-text : goal.returns-in-Full-clause-text
+unfolding refusal_text refusal_number
+returns-in-Full-clause-text c = simp c.in-Full.is c.put_text.ensures.text
 
-pub returns : goal.returns
-unfolding refusal_text
-returns c = record { room = omega arith; text = simp (← c.number-no.ensures, ne_eqb _ _ c.if-no-eq3.false, ne_eqb _ _ c.if-no-eq4.false) c.put_bad.ensures.text }
+pub returns-in-Absent-clause-text : goal.returns-in-Absent-clause-text
+unfolding refusal_text refusal_number
+returns-in-Absent-clause-text c = simp c.in-Absent.is c.put_text-in-Absent.ensures.text
+
+pub returns-in_default : goal.returns-in_default
+unfolding refusal_text refusal_number
+returns-in_default c = record { room = omega arith; text = simp (other_text c.args.why c.in_default.not-Full c.in_default.not-Absent) c.put_bad.ensures.text }
