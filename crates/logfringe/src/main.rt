@@ -10,7 +10,6 @@ ghost use Rattle.commands.specs.Pieces.{PieceLeaves, part, ending_image, ending_
 
 use commands::pieces::{answer_lines, finish, keep};
 use lookup::start::start;
-use records::Done;
 use std::io::{self, Read};
 
 // Where a piece ends: the first byte of the line that has begun, whether it is too long already, and whether every answer was written, or the error of the write that failed.
@@ -114,7 +113,7 @@ fn main(rt: HostRuntime) -> io::Result<()> {
     let mut output = [0u8; 65536];
     let out: &mut [u8] = &mut output;
     match start(img, 256, 512) {
-        Done::Yes => answer_input(&rt, &mut rt.stdin(), buf, img, out),
-        Done::Refused(_) => Ok(()),
+        Ok(()) => answer_input(&rt, &mut rt.stdin(), buf, img, out),
+        Err(_) => Ok(()),
     }
 }

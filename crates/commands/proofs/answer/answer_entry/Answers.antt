@@ -3,10 +3,10 @@ use native.Mathlib.Omega.{arith}
 use Rattle.commands.specs.Answers.{one_text}
 use Rattle.commands.proofs.answer.answer_entry.Goals as goal
 
-pub returns-in-Is : goal.returns-in-Is
+pub returns-in-Ok : goal.returns-in-Ok
 unfolding one_text
-returns-in-Is c = record { room = omega arith; text = simp c.in-Is.is c.put_entry.ensures.text }
+returns-in-Ok c = record { room = omega arith; text = simp c.in-Ok.is c.put_entry.ensures.text }
 
-pub returns-in-Refused : goal.returns-in-Refused
+pub returns-in-Err : goal.returns-in-Err
 unfolding one_text
-returns-in-Refused c = record { room = omega arith; text = simp c.in-Refused.is c.put_refusal.ensures.text }
+returns-in-Err c = record { room = omega arith; text = simp c.in-Err.is c.put_refusal.ensures.text }

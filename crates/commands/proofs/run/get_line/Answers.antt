@@ -3,9 +3,9 @@ use native.Mathlib.Omega.{arith}
 use Rattle.commands.specs.Answers.{val_text}
 use Rattle.commands.proofs.run.get_line.Goals as goal
 
-pub returns-in-Found : goal.returns-in-Found
-returns-in-Found c = record { room = omega arith; text = simp (← c.get.ensures, c.in-Found.is) c.put_val.ensures.text }
+pub returns-in-Ok : goal.returns-in-Ok
+returns-in-Ok c = record { room = omega arith; text = simp (← c.get.ensures, c.in-Ok.is) c.put_val.ensures.text }
 
-pub returns-in-Refused : goal.returns-in-Refused
+pub returns-in-Err : goal.returns-in-Err
 unfolding val_text
-returns-in-Refused c = record { room = omega arith; text = simp (← c.get.ensures, c.in-Refused.is) c.put_refusal.ensures.text }
+returns-in-Err c = record { room = omega arith; text = simp (← c.get.ensures, c.in-Err.is) c.put_refusal.ensures.text }
