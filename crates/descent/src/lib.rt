@@ -5,9 +5,13 @@
 
 ghost use Rattle.std.specs.Prelude.{◌≡◌, ◌+◌, ◌*◌, ◌<◌, ◌≤◌, length};
 ghost use Rattle.words.specs.Words.{words};
+ghost use Rattle.records.specs.declared.Node.{Node};
+ghost use Rattle.records.specs.declared.NodeIndex.{NodeIndex};
 ghost use Rattle.inspection.specs.Room.{Room};
-ghost use Rattle.descent.specs.Bits.{all_bits};
-ghost use Rattle.descent.specs.Descent.{child_of, lookup_turn, bits_turn, turn_at, descend, find_of, leaf_of, end_of};
+ghost use Rattle.descent.specs.declared.Turn.{Turn};
+ghost use Rattle.descent.specs.Bits.{all_bits, bits_turns};
+ghost use Rattle.descent.specs.Descent.{child_of, lookup_turn, bits_turn, turn_at, from_root, find_of, leaf_of, end_of};
+ghost use Rattle.descent.specs.Laws.{Turns, lookup_turns};
 
 use inspection::Visited;
 use inspection::visit::{root_ok, visit};
@@ -31,55 +35,82 @@ pub enum Turn {
     Halt(Stop),
 }
 
-// ---- by a key, prefixes compared
+// What a descent goes by: the turn that it takes at a node, down from an inner node alone and to the next longer prefix. What a lookup and a remove do
+// differently is their turn; the loop is one, made anew for each.
+trait Descend: Copy {
+    ghost turn: { Self → NodeIndex → Node → Turn };
 
-// One node of the descent: damaged, parted, found, or down.
-fn lookup_turn(img: &[u8], h: Header, key: Key, i: NodeIndex, above: NodeIndex, low: u64) -> Turn
-    requires { Room h (length (words img.now)) }
-    ensures { result ≡ turn_at (lookup_turn key) h (words img.now) i above low }
-{
-    match visit(img, h, i, above, low) {
-        Visited::Inner(x) => {
-            let own = x.key;
-            match goes(key, own, x.prefix) {
-                Way::Left => {
-                    let left = x.left;
-                    Turn::Down(left, x.prefix + 1)
-                }
-                Way::Right => {
-                    let right = x.right;
-                    Turn::Down(right, x.prefix + 1)
-                }
-                Way::Parts => Turn::Halt(Stop::Parted(i, x, leading_equal(key, own))),
-            }
-        }
-        Visited::Leaf(x) => {
-            let own = x.key;
-            let shared = leading_equal(key, own);
-            if shared < x.prefix {
-                return Turn::Halt(Stop::Parted(i, x, shared));
-            }
-            Turn::Halt(Stop::Leaf(i, x))
-        }
-        Visited::Damaged => Turn::Halt(Stop::Damaged),
-    }
+    // One node of the descent, reached from the node above.
+    fn turn(self, img: &[u8], h: Header, i: NodeIndex, above: NodeIndex, low: u64) -> Turn
+        requires { Room h (length (words img.now)) }
+        ensures { result ≡ turn_at (turn self) h (words img.now) i above low };
+
+    ghost turns: { (by : Self) → Turns (turn by) };
 }
 
-fn descend_from(img: &[u8], h: Header, key: Key) -> Stop
+// From the root, by the root's rule; in an empty map nothing is visited.
+fn from_root<D: Descend>(img: &[u8], h: Header, by: D) -> Stop
     requires { Room h (length (words img.now)) }
-    ensures { result ≡ descend (lookup_turn key) 129 h (words img.now) h.root (record { 0 = 0 }) 0 }
+    ensures { result ≡ from_root (D.turn by) h (words img.now) }
 {
+    if h.values.size == 0 {
+        return Stop::Empty;
+    }
+    if !root_ok(img, h) {
+        return Stop::Damaged;
+    }
     let mut at = h.root;
     let mut above = NodeIndex(0);
     let mut low: u64 = 0;
     loop {
-        match lookup_turn(img, h, key, at, above, low) {
+        match by.turn(img, h, at, above, low) {
             Turn::Down(next, least) => {
                 above = at;
                 at = next;
                 low = least;
             }
             Turn::Halt(stop) => break stop,
+        }
+    }
+}
+
+// ---- by a key, prefixes compared
+
+#[derive(Clone, Copy)]
+struct ByKey(Key);
+
+impl Descend for ByKey {
+    ghost turn = { λ by. lookup_turn by.0 };
+
+    ghost turns = { λ by. lookup_turns by.0 };
+
+    // Damaged, parted, found, or down.
+    fn turn(self, img: &[u8], h: Header, i: NodeIndex, above: NodeIndex, low: u64) -> Turn {
+        let key = self.0;
+        match visit(img, h, i, above, low) {
+            Visited::Inner(x) => {
+                let own = x.key;
+                match goes(key, own, x.prefix) {
+                    Way::Left => {
+                        let left = x.left;
+                        Turn::Down(left, x.prefix + 1)
+                    }
+                    Way::Right => {
+                        let right = x.right;
+                        Turn::Down(right, x.prefix + 1)
+                    }
+                    Way::Parts => Turn::Halt(Stop::Parted(i, x, leading_equal(key, own))),
+                }
+            }
+            Visited::Leaf(x) => {
+                let own = x.key;
+                let shared = leading_equal(key, own);
+                if shared < x.prefix {
+                    return Turn::Halt(Stop::Parted(i, x, shared));
+                }
+                Turn::Halt(Stop::Leaf(i, x))
+            }
+            Visited::Damaged => Turn::Halt(Stop::Damaged),
         }
     }
 }
@@ -89,18 +120,13 @@ pub fn find(img: &[u8], h: Header, key: Key) -> Stop
     requires { Room h (length (words img.now)) }
     ensures { result ≡ find_of h (words img.now) key }
 {
-    if h.values.size == 0 {
-        return Stop::Empty;
-    }
-    if root_ok(img, h) {
-        return descend_from(img, h, key);
-    }
-    Stop::Damaged
+    from_root(img, h, ByKey(key))
 }
 
 // ---- by a key's bits alone
 
 // The child on the side of the key's bit at the node's prefix length.
+#[tactic(auto, unfolding(crate::specs::Descent::child_of))]
 fn child(key: Key, x: Node) -> NodeIndex
     ensures { result ≡ child_of key x }
 {
@@ -110,33 +136,21 @@ fn child(key: Key, x: Node) -> NodeIndex
     x.left
 }
 
-// One node of the descent: damaged, down, or the leaf.
-fn bits_turn(img: &[u8], h: Header, key: Key, i: NodeIndex, above: NodeIndex, low: u64) -> Turn
-    requires { Room h (length (words img.now)) }
-    ensures { result ≡ turn_at (bits_turn key) h (words img.now) i above low }
-{
-    match visit(img, h, i, above, low) {
-        Visited::Inner(x) => Turn::Down(child(key, x), x.prefix + 1),
-        Visited::Leaf(x) => Turn::Halt(Stop::Leaf(i, x)),
-        Visited::Damaged => Turn::Halt(Stop::Damaged),
-    }
-}
+#[derive(Clone, Copy)]
+struct ByBits(Key);
 
-fn leaf_from(img: &[u8], h: Header, key: Key) -> Stop
-    requires { Room h (length (words img.now)) }
-    ensures { result ≡ descend (bits_turn key) 129 h (words img.now) h.root (record { 0 = 0 }) 0 }
-{
-    let mut at = h.root;
-    let mut above = NodeIndex(0);
-    let mut low: u64 = 0;
-    loop {
-        match bits_turn(img, h, key, at, above, low) {
-            Turn::Down(next, least) => {
-                above = at;
-                at = next;
-                low = least;
-            }
-            Turn::Halt(stop) => break stop,
+impl Descend for ByBits {
+    ghost turn = { λ by. bits_turn by.0 };
+
+    ghost turns = { λ by. bits_turns by.0 };
+
+    // Damaged, down, or the leaf.
+    fn turn(self, img: &[u8], h: Header, i: NodeIndex, above: NodeIndex, low: u64) -> Turn {
+        let key = self.0;
+        match visit(img, h, i, above, low) {
+            Visited::Inner(x) => Turn::Down(child(key, x), x.prefix + 1),
+            Visited::Leaf(x) => Turn::Halt(Stop::Leaf(i, x)),
+            Visited::Damaged => Turn::Halt(Stop::Damaged),
         }
     }
 }
@@ -146,13 +160,7 @@ pub fn reach(img: &[u8], h: Header, key: Key) -> Stop
     requires { Room h (length (words img.now)) }
     ensures { result ≡ leaf_of h (words img.now) key }
 {
-    if h.values.size == 0 {
-        return Stop::Empty;
-    }
-    if root_ok(img, h) {
-        return leaf_from(img, h, key);
-    }
-    Stop::Damaged
+    from_root(img, h, ByBits(key))
 }
 
 // The key whose bits are all 0, or all 1.
