@@ -8,7 +8,5 @@ use Rattle.full_check.proofs.chains.unused.Goals as goal
 pub overflow_mul-width : goal.overflow_mul-width
 overflow_mul-width c =
     let small : c.width.result ≤ 12 = omega (arith, width_most c.args.a) in
-    omega (arith, mul-le-mul_right c.minus-many.result small)
+    omega (arith, mul-le-mul_right c.saturating_sub-many.result small)
 
-pub returns : goal.returns
-returns c = cc
