@@ -1,6 +1,6 @@
 // The walk over the tree: from the root to the left child, then to the right one, each node tested before it is relied on. The value
 // records that leaves name are marked, so that one named twice is found.
-ghost use Rattle.std.specs.Prelude.{◌≡◌, ◌&&◌, false, ◌+◌, ◌≤◌, ltb, length};
+ghost use Rattle.std.specs.Prelude.{◌≡◌, ◌&&◌, ◌+◌, ◌≤◌, ltb, length};
 ghost use Rattle.words.specs.Words.{words};
 ghost use Rattle.inspection.specs.Room.{Room};
 ghost use Rattle.full_check.specs.Walk.{side_ok, leaf_walk};
@@ -12,14 +12,8 @@ use inspection::visit::{is_live, live_value, root_ok, visit};
 use keys::{Key, bit, leading_equal};
 use records::{Header, Node, NodeIndex};
 
-// What a walk answers: whether every node passed, and how many nodes are left to be reached.
-#[derive(Clone, Copy)]
-pub struct Walked {
-    pub passed: bool,
-    pub rest: u64,
-}
-
 // A child's key shares its parent's prefix and has the side's bit behind it. `low` is one more than that prefix, and 0 at the root.
+#[tactic(auto, unfolding(crate::specs::Walk::side_ok))]
 fn side_ok(low: u64, key: Key, right: bool, x: Node) -> bool
     ensures { result ≡ side_ok low key right x }
 {
@@ -38,18 +32,11 @@ fn in_order(low: u64, key: Key, right: bool, rest: u64, x: Node) -> bool
     side_ok(low, key, right, x) & (0 < rest)
 }
 
-// A walk that failed reaches no more.
-fn lost() -> Walked
-    ensures { result ≡ record { passed = false; rest = 0 } }
-{
-    Walked {
-        passed: false,
-        rest: 0,
-    }
-}
+// A walk answers how many nodes are left to be reached, if every node passed.
 
 // Leaf `i`: its value record is tested and marked.
-fn leaf_walk(img: &[u8], marks: &mut [u8], n: u32, rest: u64, i: NodeIndex, x: Node) -> Walked
+#[tactic(auto, using(inspection::specs::Visit::live_tested), unfolding(crate::specs::Walk::leaf_walk))]
+fn leaf_walk(img: &[u8], marks: &mut [u8], n: u32, rest: u64, i: NodeIndex, x: Node) -> Option<u64>
     requires { 1 ≤ x.value.0 }
     ensures { walked result (words marks.new) ≡ leaf_walk n (words img.now) rest (words marks.old) i.0 x }
 {
@@ -57,12 +44,13 @@ fn leaf_walk(img: &[u8], marks: &mut [u8], n: u32, rest: u64, i: NodeIndex, x: N
     let at = (j.0 - 1) as usize;
     if is_live(live_value(img, n, i, j)) & (words::word(marks, at) == 0) {
         words::set_word(marks, at, 1);
-        return Walked { passed: true, rest };
+        return Some(rest);
     }
-    lost()
+    None
 }
 
 // Node `i`, reached from the node above, whose key is `key`, on the side `right`, and all nodes below it.
+#[tactic(auto, using(crate::specs::Walked::damaged, crate::specs::Walked::refused, crate::specs::Walked::counted, crate::specs::Walked::below, crate::specs::Walked::at_leaf, crate::specs::Walked::falls_below, crate::specs::Walked::leaf_names))]
 fn walk(
     img: &[u8],
     marks: &mut [u8],
@@ -74,7 +62,7 @@ fn walk(
     low: u64,
     key: Key,
     right: bool,
-) -> Walked
+) -> Option<u64>
     requires { Room h (length (words img.now)) × (low ≤ 128) }
     ensures { WalksTo n h (words img.now) rest (words marks.old) i.0 above.0 low key right (walked result (words marks.new)) }
 {
@@ -83,25 +71,23 @@ fn walk(
             if in_order(low, key, right, rest, x) {
                 let own = x.key;
                 let least = x.prefix + 1;
-                let l = walk(img, marks, n, h, rest - 1, x.left, i, least, own, false);
-                if l.passed {
-                    return walk(img, marks, n, h, l.rest, x.right, i, least, own, true);
-                }
-                return l;
+                let more = walk(img, marks, n, h, rest - 1, x.left, i, least, own, false)?;
+                return walk(img, marks, n, h, more, x.right, i, least, own, true);
             }
-            lost()
+            None
         }
         Visited::Leaf(x) => {
             if in_order(low, key, right, rest, x) {
                 return leaf_walk(img, marks, n, rest - 1, i, x);
             }
-            lost()
+            None
         }
-        Visited::Damaged => lost(),
+        Visited::Damaged => None,
     }
 }
 
 // The root keeps its rule, and the tree reaches as many nodes as node size says; an empty map has none.
+#[tactic(auto, unfolding(crate::specs::Check::tree_ok, crate::specs::Check::root_walk))]
 pub fn tree_ok(img: &[u8], marks: &mut [u8], n: u32, h: Header) -> bool
     requires { Room h (length (words img.now)) }
     ensures { result ≡ tree_ok n h (words img.now) (words marks.old) }
@@ -114,7 +100,7 @@ pub fn tree_ok(img: &[u8], marks: &mut [u8], n: u32, h: Header) -> bool
     }
     let root = h.root;
     let none = Key { high: 0, low: 0 };
-    let w = walk(
+    let left = walk(
         img,
         marks,
         n,
@@ -126,5 +112,5 @@ pub fn tree_ok(img: &[u8], marks: &mut [u8], n: u32, h: Header) -> bool
         none,
         false,
     );
-    w.passed & (w.rest == 0)
+    left == Some(0)
 }

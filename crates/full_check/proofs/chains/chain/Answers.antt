@@ -1,7 +1,7 @@
 -- `full_check::chains::chain` meets its contract.
 use Rattle.std.specs.Prelude.{leb}
 use mathlib.Core.Path.{◌≡◌, sym, ap, ◌∙◌}
-use Prim.Native.Nat.{◌≤◌, ◌<◌, ◌-◌, ◌+◌}
+use Prim.Native.Nat.{◌-◌, ◌+◌}
 use native.Mathlib.Omega.{arith}
 use borrow.Author.Tests.{leb-true, ltb-true}
 use Rattle.words.specs.Tests.{and_l, and_r}

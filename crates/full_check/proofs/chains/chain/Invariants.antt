@@ -1,5 +1,5 @@
 -- `full_check::chains::chain` meets its contract. The loop's invariant: what is left of the chain is the whole of it.
-use Rattle.std.proofs.Common.{◌≡◌, ◌-◌, ◌≤◌, ℕ, Bool}
+use Rattle.std.proofs.Common.{◌≡◌, ◌-◌, ℕ, Bool}
 use Rattle.full_check.specs.Chains.{chain_of, free_count, Links}
 use Rattle.full_check.proofs.chains.chain.Given as goal
 

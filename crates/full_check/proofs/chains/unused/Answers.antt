@@ -9,4 +9,3 @@ pub overflow_mul-width : goal.overflow_mul-width
 overflow_mul-width c =
     let small : c.width.result ≤ 12 = omega (arith, width_most c.args.a) in
     omega (arith, mul-le-mul_right c.saturating_sub-many.result small)
-
