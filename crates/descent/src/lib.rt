@@ -49,6 +49,7 @@ trait Descend: Copy {
 }
 
 // From the root, by the root's rule; in an empty map nothing is visited.
+#[tactic(auto, using(crate::proofs::Turns::steps), unfolding(crate::specs::Descent::from_root))]
 fn from_root<D: Descend>(img: &[u8], h: Header, by: D) -> Stop
     requires { Room h (length (words img.now)) }
     ensures { result ≡ from_root (D.turn by) h (words img.now) }
@@ -85,6 +86,7 @@ impl Descend for ByKey {
     ghost turns = { λ by. lookup_turns by.0 };
 
     // Damaged, parted, found, or down.
+    #[tactic(auto, using(crate::proofs::Turns::lookup_turning))]
     fn turn(self, img: &[u8], h: Header, i: NodeIndex, above: NodeIndex, low: u64) -> Turn {
         let key = self.0;
         match visit(img, h, i, above, low) {
@@ -145,6 +147,7 @@ impl Descend for ByBits {
     ghost turns = { λ by. bits_turns by.0 };
 
     // Damaged, down, or the leaf.
+    #[tactic(auto, using(crate::proofs::Turns::bits_turning))]
     fn turn(self, img: &[u8], h: Header, i: NodeIndex, above: NodeIndex, low: u64) -> Turn {
         let key = self.0;
         match visit(img, h, i, above, low) {
@@ -177,6 +180,7 @@ fn all_bits(right: bool) -> Key
 }
 
 // The first leaf from the left, or from the right: the Rust's `find_min` and `find_max`.
+#[tactic(auto, using(crate::specs::Bits::end_bits))]
 pub fn find_end(img: &[u8], h: Header, right: bool) -> Stop
     requires { Room h (length (words img.now)) }
     ensures { result ≡ end_of h (words img.now) right }

@@ -50,7 +50,7 @@ fn leaf_walk(img: &[u8], marks: &mut [u8], n: u32, rest: u64, i: NodeIndex, x: N
 }
 
 // Node `i`, reached from the node above, whose key is `key`, on the side `right`, and all nodes below it.
-#[tactic(auto, using(crate::specs::Walked::damaged, crate::specs::Walked::refused, crate::specs::Walked::counted, crate::specs::Walked::below, crate::specs::Walked::at_leaf, crate::specs::Walked::falls_below, crate::specs::Walked::leaf_names))]
+#[tactic(auto, using(crate::specs::Walked::ends))]
 fn walk(
     img: &[u8],
     marks: &mut [u8],
