@@ -20,8 +20,7 @@ use Rattle.inspection.specs.declared.Live.TheVariants as live
 use Rattle.inspection.specs.Visit.{live_of}
 use Rattle.descent.specs.declared.Stop.{Stop}
 use Rattle.descent.specs.declared.Stop.TheVariants as stop
-use Rattle.descent.specs.declared.Turn.{Turn}
-use Rattle.descent.specs.Descent.{lookup_turn, end_turn, descend, from_root, find_of}
+use Rattle.descent.specs.Descent.{Turn, lookup_turn, end_turn, descend, from_root, find_of}
 use Rattle.lookup.specs.declared.Target.{Target}
 use Rattle.lookup.specs.declared.Target.TheVariants.{At, No}
 use Rattle.lookup.specs.Start.{length_of, opened_length, capacity_reply, opened_capacity}

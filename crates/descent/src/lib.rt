@@ -8,15 +8,15 @@ ghost use Rattle.words.specs.Words.{words};
 ghost use Rattle.records.specs.declared.Node.{Node};
 ghost use Rattle.records.specs.declared.NodeIndex.{NodeIndex};
 ghost use Rattle.inspection.specs.Room.{Room};
-ghost use Rattle.descent.specs.declared.Turn.{Turn};
 ghost use Rattle.descent.specs.Bits.{all_bits, bits_turns};
-ghost use Rattle.descent.specs.Descent.{child_of, lookup_turn, bits_turn, turn_at, from_root, find_of, leaf_of, end_of};
+ghost use Rattle.descent.specs.Descent.{Turn, child_of, lookup_turn, bits_turn, turn_at, from_root, find_of, leaf_of, end_of};
 ghost use Rattle.descent.specs.Laws.{Turns, lookup_turns};
 
 use inspection::Visited;
 use inspection::visit::{root_ok, visit};
 use keys::{Key, Way, bit, goes, leading_equal};
 use records::{Header, Node, NodeIndex};
+use std::ops::ControlFlow::{self, Break, Continue};
 
 // Why a descent stopped, and where: at a leaf that fits; at a node where the key parts from the map, with the number of bits that they share; in an
 // empty map; at damage.
@@ -28,12 +28,8 @@ pub enum Stop {
     Damaged,
 }
 
-// One node's answer: the child to go to and the least prefix length that it may have, or the end.
-#[derive(Clone, Copy)]
-pub enum Turn {
-    Down(NodeIndex, u64),
-    Halt(Stop),
-}
+// What a turn at one node comes to: the child to go to and the least prefix length that it may have, or the end.
+type Turn = ControlFlow<Stop, (NodeIndex, u64)>;
 
 // What a descent goes by: the turn that it takes at a node, down from an inner node alone and to the next longer prefix. What a lookup and a remove do
 // differently is their turn; the loop is one, made anew for each.
@@ -65,12 +61,12 @@ fn from_root<D: Descend>(img: &[u8], h: Header, by: D) -> Stop
     let mut low: u64 = 0;
     loop {
         match by.turn(img, h, at, above, low) {
-            Turn::Down(next, least) => {
+            Continue((next, least)) => {
                 above = at;
                 at = next;
                 low = least;
             }
-            Turn::Halt(stop) => break stop,
+            Break(stop) => break stop,
         }
     }
 }
@@ -95,24 +91,24 @@ impl Descend for ByKey {
                 match goes(key, own, x.prefix) {
                     Way::Left => {
                         let left = x.left;
-                        Turn::Down(left, x.prefix + 1)
+                        Continue((left, x.prefix + 1))
                     }
                     Way::Right => {
                         let right = x.right;
-                        Turn::Down(right, x.prefix + 1)
+                        Continue((right, x.prefix + 1))
                     }
-                    Way::Parts => Turn::Halt(Stop::Parted(i, x, leading_equal(key, own))),
+                    Way::Parts => Break(Stop::Parted(i, x, leading_equal(key, own))),
                 }
             }
             Visited::Leaf(x) => {
                 let own = x.key;
                 let shared = leading_equal(key, own);
                 if shared < x.prefix {
-                    return Turn::Halt(Stop::Parted(i, x, shared));
+                    return Break(Stop::Parted(i, x, shared));
                 }
-                Turn::Halt(Stop::Leaf(i, x))
+                Break(Stop::Leaf(i, x))
             }
-            Visited::Damaged => Turn::Halt(Stop::Damaged),
+            Visited::Damaged => Break(Stop::Damaged),
         }
     }
 }
@@ -151,9 +147,9 @@ impl Descend for ByBits {
     fn turn(self, img: &[u8], h: Header, i: NodeIndex, above: NodeIndex, low: u64) -> Turn {
         let key = self.0;
         match visit(img, h, i, above, low) {
-            Visited::Inner(x) => Turn::Down(child(key, x), x.prefix + 1),
-            Visited::Leaf(x) => Turn::Halt(Stop::Leaf(i, x)),
-            Visited::Damaged => Turn::Halt(Stop::Damaged),
+            Visited::Inner(x) => Continue((child(key, x), x.prefix + 1)),
+            Visited::Leaf(x) => Break(Stop::Leaf(i, x)),
+            Visited::Damaged => Break(Stop::Damaged),
         }
     }
 }
