@@ -59,6 +59,7 @@ pub fn value_chain(img: &[u8], n: u32, h: Header) -> bool
 }
 
 // Every record of an arena from the bump on is zeros.
+#[tactic(auto, using(node_allocator::specs::Layout::width_most))]
 pub fn unused(img: &[u8], a: Arena, bump: u32) -> bool
     ensures { result ≡ zeros_at (words img.now) (record_at a bump) (width_of a * (capacity_of a + 1 - bump)) }
 {
