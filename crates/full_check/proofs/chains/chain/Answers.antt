@@ -1,12 +1,15 @@
 -- `full_check::chains::chain` meets its contract.
-use Rattle.std.specs.Prelude.{leb}
+use Rattle.std.specs.Prelude.{true, ◌&&◌, leb, ltb}
 use mathlib.Core.Path.{◌≡◌, sym, ap, ◌∙◌}
-use Prim.Native.Nat.{◌-◌, ◌+◌}
+use Prim.Native.Nat.{ℕ, ◌-◌, ◌+◌, ◌≤◌, ◌<◌}
 use native.Mathlib.Omega.{arith}
 use borrow.Author.Tests.{leb-true, ltb-true}
 use Rattle.words.specs.Tests.{and_l, and_r}
 use Rattle.full_check.specs.Chains.{chain_of, free_count, chain_end, chain_outside, chain_stops, chain_goes_on}
 use Rattle.full_check.proofs.chains.chain.Goals as goal
+
+inside : (i bump : ℕ) → leb 1 i && ltb i bump ≡ true → (1 ≤ i) × (i < bump)
+inside i bump e = (leb-true 1 i (and_l _ _ e), ltb-true i bump (and_r (leb 1 i) _ e))
 
 pub loop-init : goal.loop-init
 loop-init g c free next links =
@@ -19,19 +22,19 @@ returns-then-not-i-c g c free next links =
     ∙ c.loop.invariant free next links
 
 pub link-requires : goal.link-requires
-link-requires g c = c.requires c.loop.i (leb-true 1 _ (and_l _ _ c.if-not-i-c.false)) (ltb-true _ c.args.c.bump (and_r (leb 1 c.loop.i) _ c.if-not-i-c.false))
+link-requires g c = c.requires c.loop.i (inside _ _ c.if-not-i-c.false).0 (inside _ _ c.if-not-i-c.false).1
 
 pub returns-in-None : goal.returns-in-None
 returns-in-None g c free next links =
     let within = c.if-not-i-c.false in
-    let answer = links c.loop.i _ (leb-true 1 _ (and_l _ _ within)) (ltb-true _ c.args.c.bump (and_r (leb 1 c.loop.i) _ within)) c.link.ensures in
+    let answer = links c.loop.i _ (inside _ _ within).0 (inside _ _ within).1 c.link.ensures in
     sym (chain_stops free next _ (c.free_count-end.result - c.loop.counter) c.loop.i (omega arith) within (sym c.in-None.is ∙ answer))
     ∙ c.loop.invariant free next links
 
 pub loop-preserved : goal.loop-preserved
 loop-preserved g c free next links =
     let within = c.if-not-i-c.false in
-    let answer = links c.loop.i _ (leb-true 1 _ (and_l _ _ within)) (ltb-true _ c.args.c.bump (and_r (leb 1 c.loop.i) _ within)) c.link.ensures in
+    let answer = links c.loop.i _ (inside _ _ within).0 (inside _ _ within).1 c.link.ensures in
     let less : c.free_count-end.result - (c.loop.counter + 1) ≡ c.free_count-end.result - c.loop.counter - 1 = omega arith in
     rw less (sym (chain_goes_on free next _ (c.free_count-end.result - c.loop.counter) c.loop.i (omega arith) within c.in-Some.next (sym c.in-Some.is ∙ answer))
     ∙ c.loop.invariant free next links)
