@@ -12,6 +12,25 @@ use inspection::visit::{is_live, live_value, root_ok, visit};
 use keys::{Key, bit, leading_equal};
 use records::{Header, Node, NodeIndex};
 
+// What a walk goes over: an image, its N, and its header, which gives room for every node below the bump.
+#[derive(Clone, Copy)]
+struct Image<'a> {
+    bytes: &'a [u8],
+    n: u32,
+    h: Header,
+    ghost room: { Room h (length (words bytes.now)) },
+}
+
+// Where a node is reached from: the node above, the least prefix length below that one, its key, and the side.
+#[derive(Clone, Copy)]
+struct Above {
+    at: NodeIndex,
+    low: u64,
+    key: Key,
+    right: bool,
+    ghost deep: { low ≤ 128 },
+}
+
 // A child's key shares its parent's prefix and has the side's bit behind it. `low` is one more than that prefix, and 0 at the root.
 #[tactic(auto, unfolding(crate::specs::Walk::side_ok))]
 fn side_ok(low: u64, key: Key, right: bool, x: Node) -> bool
@@ -32,9 +51,7 @@ fn in_order(low: u64, key: Key, right: bool, rest: u64, x: Node) -> bool
     side_ok(low, key, right, x) & (0 < rest)
 }
 
-// A walk answers how many nodes are left to be reached, if every node passed.
-
-// Leaf `i`: its value record is tested and marked.
+// Leaf `i`: its value record is tested and marked. A walk answers how many nodes are left to be reached, if every node passed.
 #[tactic(auto, using(inspection::specs::Visit::live_tested), unfolding(crate::specs::Walk::leaf_walk))]
 fn leaf_walk(img: &[u8], marks: &mut [u8], n: u32, rest: u64, i: NodeIndex, x: Node) -> Option<u64>
     requires { 1 ≤ x.value.0 }
@@ -49,36 +66,36 @@ fn leaf_walk(img: &[u8], marks: &mut [u8], n: u32, rest: u64, i: NodeIndex, x: N
     None
 }
 
-// Node `i`, reached from the node above, whose key is `key`, on the side `right`, and all nodes below it.
+// Node `i`, reached from the node above, and all nodes below it.
 #[tactic(auto, using(crate::specs::Walked::ends))]
-fn walk(
-    img: &[u8],
-    marks: &mut [u8],
-    n: u32,
-    h: Header,
-    rest: u64,
-    i: NodeIndex,
-    above: NodeIndex,
-    low: u64,
-    key: Key,
-    right: bool,
-) -> Option<u64>
-    requires { Room h (length (words img.now)) × (low ≤ 128) }
-    ensures { WalksTo n h (words img.now) rest (words marks.old) i.0 above.0 low key right (walked result (words marks.new)) }
+fn walk(image: &Image, marks: &mut [u8], rest: u64, i: NodeIndex, above: &Above) -> Option<u64>
+    ensures { WalksTo image.now.n image.now.h (words image.now.bytes.now) rest (words marks.old) i.0 above.now.at.0 above.now.low above.now.key above.now.right (walked result (words marks.new)) }
 {
-    match visit(img, h, i, above, low) {
+    match visit(image.bytes, image.h, i, above.at, above.low) {
         Visited::Inner(x) => {
-            if in_order(low, key, right, rest, x) {
+            if in_order(above.low, above.key, above.right, rest, x) {
                 let own = x.key;
                 let least = x.prefix + 1;
-                let more = walk(img, marks, n, h, rest - 1, x.left, i, least, own, false)?;
-                return walk(img, marks, n, h, more, x.right, i, least, own, true);
+                let on_left = Above {
+                    at: i,
+                    low: least,
+                    key: own,
+                    right: false,
+                };
+                let more = walk(image, marks, rest - 1, x.left, &on_left)?;
+                let on_right = Above {
+                    at: i,
+                    low: least,
+                    key: own,
+                    right: true,
+                };
+                return walk(image, marks, more, x.right, &on_right);
             }
             None
         }
         Visited::Leaf(x) => {
-            if in_order(low, key, right, rest, x) {
-                return leaf_walk(img, marks, n, rest - 1, i, x);
+            if in_order(above.low, above.key, above.right, rest, x) {
+                return leaf_walk(image.bytes, marks, image.n, rest - 1, i, x);
             }
             None
         }
@@ -99,18 +116,13 @@ pub fn tree_ok(img: &[u8], marks: &mut [u8], n: u32, h: Header) -> bool
         return false;
     }
     let root = h.root;
-    let none = Key { high: 0, low: 0 };
-    let left = walk(
-        img,
-        marks,
-        n,
-        h,
-        h.nodes.size,
-        root,
-        NodeIndex(0),
-        0,
-        none,
-        false,
-    );
+    let none = Above {
+        at: NodeIndex(0),
+        low: 0,
+        key: Key { high: 0, low: 0 },
+        right: false,
+    };
+    let image = Image { bytes: img, n, h };
+    let left = walk(&image, marks, h.nodes.size, root, &none);
     left == Some(0)
 }
