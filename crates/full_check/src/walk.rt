@@ -74,22 +74,15 @@ fn walk(image: &Image, marks: &mut [u8], rest: u64, i: NodeIndex, above: &Above)
     match visit(image.bytes, image.h, i, above.at, above.low) {
         Visited::Inner(x) => {
             if in_order(above.low, above.key, above.right, rest, x) {
-                let own = x.key;
-                let least = x.prefix + 1;
-                let on_left = Above {
+                let mut below = Above {
                     at: i,
-                    low: least,
-                    key: own,
+                    low: x.prefix + 1,
+                    key: x.key,
                     right: false,
                 };
-                let more = walk(image, marks, rest - 1, x.left, &on_left)?;
-                let on_right = Above {
-                    at: i,
-                    low: least,
-                    key: own,
-                    right: true,
-                };
-                return walk(image, marks, more, x.right, &on_right);
+                let more = walk(image, marks, rest - 1, x.left, &below)?;
+                below.right = true;
+                return walk(image, marks, more, x.right, &below);
             }
             None
         }
