@@ -6,16 +6,15 @@ use Rattle.std.proofs.Math.Bool.{true, false}
 use Rattle.std.proofs.Math.Decide.{dec_le}
 use Rattle.std.proofs.Math.ListN.{length}
 use borrow.Author.Tests.{le-leb, lt-leb}
-use Rattle.words.specs.Words.{words, words_length, Bytes}
+use Rattle.words.specs.Words.{words, Bytes}
 use Rattle.records.specs.declared.Refusal.TheVariants as no
 use Rattle.records.specs.declared.Done.TheVariants as done
 use Rattle.records.specs.Records.{header_of}
 use Rattle.inspection.specs.Tests.{shape_ok, top_ok}
 use Rattle.inspection.specs.Opening.{open_shaped, open_of}
-use Rattle.inspection.specs.Room.{room, image_words, shaped_opens}
 use Rattle.records.specs.Numbers.{refusal_number, done_number}
 use Rattle.full_check.specs.Check.{unmarked, records_ok, opened_check, check_shape, check_of, check_scratch}
-use Rattle.full_check.specs.Scratch.{first_fits, first_long, first_many, ScratchLeft, left_cleared, one_scratch}
+use Rattle.full_check.specs.Scratch.{ScratchLeft, left_cleared, one_scratch}
 
 -- ---- the numbers
 
@@ -143,9 +142,3 @@ check_once m n ws {before} small small' long long' x y = one_scratch fits small 
         go : Dec (m ≤ length (words before)) → m ≤ length (words before)
         go (yes l) = l
         go (no k) = absurd (other ((numbers m n ws (words before)).shape.1 (inr (lt_of_not-le k))))
-
--- ---- what the code is proved by
-
-pub ruleset opening = (room, image_words, shaped_opens)
-
-pub ruleset outcomes = (words_length, first_fits, first_long, first_many, opened_answer, opened_scratch, shut_answer, shut_scratch)

@@ -81,6 +81,3 @@ pub leaf_names : (h : Header) (ws : List ℕ) (i above low : ℕ) (x : Node) →
 leaf_names h ws i above low x e =
     let d = eqb-false x.value.0 0 (came_leaf h ws i above low x e) in
     pos_of_ne-zero d
-
--- what the code is proved by, but for the two ways in which a left half ends
-pub ruleset ends = (damaged, refused, counted, below, at_leaf, falls_below, leaf_names)

@@ -67,7 +67,7 @@ fn leaf_walk(img: &[u8], marks: &mut [u8], n: u32, rest: u64, i: NodeIndex, x: N
 }
 
 // Node `i`, reached from the node above, and all nodes below it.
-#[tactic(auto, using(crate::specs::Walked::ends))]
+#[tactic(auto, using(crate::proofs::Rules::ends))]
 fn walk(image: &Image, marks: &mut [u8], rest: u64, i: NodeIndex, above: &Above) -> Option<u64>
     ensures { WalksTo image.now.n image.now.h (words image.now.bytes.now) rest (words marks.old) i.0 above.now.at.0 above.now.low above.now.key above.now.right (walked result (words marks.new)) }
 {
