@@ -44,11 +44,13 @@ fn side_ok(low: u64, key: Key, right: bool, x: Node) -> bool
     (prefix <= leading_equal(key, own)) & (bit(own, prefix) == right)
 }
 
-// A child on its side, with so many nodes left to be reached.
-fn in_order(low: u64, key: Key, right: bool, rest: u64, x: Node) -> bool
-    ensures { result ≡ side_ok low key right x && ltb 0 rest }
-{
-    side_ok(low, key, right, x) & (0 < rest)
+impl Above {
+    // A child on its side, with so many nodes left to be reached.
+    fn in_order(&self, rest: u64, x: Node) -> bool
+        ensures { result ≡ side_ok self.now.low self.now.key self.now.right x && ltb 0 rest }
+    {
+        side_ok(self.low, self.key, self.right, x) & (0 < rest)
+    }
 }
 
 // Leaf `i`: its value record is tested and marked. A walk answers how many nodes are left to be reached, if every node passed.
@@ -73,7 +75,7 @@ fn walk(image: &Image, marks: &mut [u8], rest: u64, i: NodeIndex, above: &Above)
 {
     match visit(image.bytes, image.h, i, above.at, above.low) {
         Visited::Inner(x) => {
-            if in_order(above.low, above.key, above.right, rest, x) {
+            if above.in_order(rest, x) {
                 let mut below = Above {
                     at: i,
                     low: x.prefix + 1,
@@ -87,7 +89,7 @@ fn walk(image: &Image, marks: &mut [u8], rest: u64, i: NodeIndex, above: &Above)
             None
         }
         Visited::Leaf(x) => {
-            if in_order(above.low, above.key, above.right, rest, x) {
+            if above.in_order(rest, x) {
                 return leaf_walk(image.bytes, marks, image.n, rest - 1, i, x);
             }
             None
