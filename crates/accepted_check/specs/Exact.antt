@@ -1,9 +1,11 @@
 -- The full check is exact (rule T15): its answer is Yes exactly if the image keeps the rules; an image of the right shape that
 -- does not keep them is refused as damaged.
-use Rattle.std.specs.Prelude.{◌≡◌, List, ◌≢◌, ◌↔◌, Bool, true, cond, ◌&&◌, ℕ, ◌+◌, ◌-◌, ◌*◌, ◌≤◌, length, eqb, Err, Ok}
+use Rattle.std.specs.Prelude.{◌≡◌, List, ◌≢◌, ◌↔◌, Option, Some, None, Bool, true, cond, ◌&&◌, ℕ, ◌+◌, ◌-◌, ◌*◌, ◌≤◌, length, eqb, Err, Ok}
 use Rattle.std.proofs.Math.Path.{refl}
 use Rattle.std.proofs.Common.{sym, ap, ◌∙◌, arith, eqb-true, eq-eqb, ne_eqb, le-leb}
 use Rattle.std.proofs.Math.Bool.{false}
+use Rattle.std.proofs.lemmas.Bool.{false≢true}
+use Rattle.std.specs.Option.{is_some}
 use Rattle.std.proofs.Math.Option.{none, some}
 use Rattle.std.proofs.Math.Nat.{pos_of_ne-zero}
 use Rattle.std.proofs.lemmas.List.{length-replicate}
@@ -19,7 +21,7 @@ use Rattle.inspection.specs.Opening.{open_of, open_shaped}
 use Rattle.inspection.specs.Room.{shaped}
 use Rattle.full_check.specs.Walk.{Walk, walk_of}
 use Rattle.full_check.specs.Chains.{nodes_unused, values_unused}
-use Rattle.full_check.specs.Check.{unmarked, root_walk, tree_ok, records_ok, opened_check, check_shape, check_of}
+use Rattle.full_check.specs.Check.{unmarked, root_walk, all_reached, tree_ok, records_ok, opened_check, check_shape, check_of}
 use Rattle.full_check.specs.Promises.{numbers}
 use Rattle.lists.specs.Lists.{all_map}
 use Rattle.trees.specs.Tree.{top, entries}
@@ -40,6 +42,10 @@ use Rattle.accepted_check.specs.Places.{InMap, padding_zero}
 
 -- ---- the tree
 
+reached_all : (rest : Option ℕ) → all_reached rest ≡ true → rest ≡ Some 0
+reached_all None e = absurd (false≢true e)
+reached_all (Some k) e = ap Some (eqb-true k 0 e)
+
 -- the rules on the tree
 pub record TreeRules (n : ℕ) (h : Header) (ws : List ℕ) : Type 0 where
   pub tree : Map
@@ -57,12 +63,12 @@ module _ (m n : ℕ) (h : Header) (ws : List ℕ) (rules : HeaderRules m n h) wh
       w : Walk
       w = walk_of 129 n h ws h.nodes.size (unmarked m) h.root.0 0 0 zero_key false
 
-      found : eqb w.rest 0 ≡ true → Reached n h ws h.nodes.size (unmarked m) h.root.0 0 0 zero_key false w
+      found : w.rest ≡ Some 0 → Reached n h ws h.nodes.size (unmarked m) h.root.0 0 0 zero_key false w
           → TreeRules n h ws
       found e r =
           record {
             tree = some r.tree;
-            holds = record { at_root = r.at_top; counted = omega (arith, r.counted, eqb-true w.rest 0 e); held = r.held };
+            holds = record { at_root = r.at_top; counted = let none_left : r.left ≡ 0 = cc in omega (arith, r.counted); held = r.held };
             clean = r.clean;
             ordered = r.ordered;
             different =
@@ -78,7 +84,7 @@ module _ (m n : ℕ) (h : Header) (ws : List ℕ) (rules : HeaderRules m n h) wh
               all_map (λ e u. (u.0, omega (arith, u.1, rules.values.bump_most))) (entries r.tree)
               (entries_used h ws 0 0 r.tree r.held)
 
-      go : (b : Bool) → eqb h.values.size 0 ≡ b → cond b true (root_ok h ws && (w.passed && eqb w.rest 0)) ≡ true
+      go : (b : Bool) → eqb h.values.size 0 ≡ b → cond b true (root_ok h ws && all_reached w.rest) ≡ true
           → TreeRules n h ws
       go true e f =
           record {
@@ -90,10 +96,9 @@ module _ (m n : ℕ) (h : Header) (ws : List ℕ) (rules : HeaderRules m n h) wh
             live = tt;
           }
       go false e f =
-          let walked : w.passed && eqb w.rest 0 ≡ true = and_r (root_ok h ws) _ f in
-          found (and_r w.passed _ walked)
-          (walk_reaches n h ws small 129 h.nodes.size (unmarked m) h.root.0 0 0 zero_key false
-          (and_l _ (eqb w.rest 0) walked))
+          let none_left : w.rest ≡ Some 0 = reached_all w.rest (and_r (root_ok h ws) _ f) in
+          found none_left
+          (walk_reaches n h ws small 129 h.nodes.size (unmarked m) h.root.0 0 0 zero_key false (ap is_some none_left))
 
   pub tree_passes : Clean h ws → (t : Map) → HoldsMap h ws t → OrderedMap t → Numbered (list_of t) → LiveAll n ws (list_of t)
       → tree_ok n h ws (unmarked m) ≡ true
@@ -116,7 +121,7 @@ module _ (m n : ℕ) (h : Header) (ws : List ℕ) (rules : HeaderRules m n h) wh
       many z = omega (arith, k.counted, rules.node_size, some_nodes t)
 
       go : (w : Walk) → w ≡ ends h.nodes.size (unmarked m) (nodes_in t) (entries t)
-          → cond (eqb h.values.size 0) true (root_ok h ws && (w.passed && eqb w.rest 0)) ≡ true
+          → cond (eqb h.values.size 0) true (root_ok h ws && all_reached w.rest) ≡ true
       go w e =
           rw (ne_eqb h.values.size 0 many, root_passes m n h ws t rules k.at_root k.counted k.held, e)
           (eq-eqb (h.nodes.size - nodes_in t) 0 (omega (arith, k.counted)))

@@ -1,5 +1,5 @@
 -- The walk passes on a tree that the image holds: it reaches each node once, and marks each leaf's value record.
-use Rattle.std.specs.Prelude.{◌≡◌, List, ◌++◌, Bool, get_or}
+use Rattle.std.specs.Prelude.{◌≡◌, List, ◌++◌, Some, Bool, get_or}
 use Rattle.std.proofs.Common.{sym, arith}
 use Rattle.std.proofs.Math.Bool.{true, false}
 use Prim.Native.Nat.{ℕ, zero, suc, ◌+◌, ◌-◌, ◌≤◌, ◌<◌}
@@ -21,7 +21,7 @@ use Rattle.accepted_check.specs.Marks.{marked, Fresh, marked_append, fresh_parts
 
 -- a walk that reached so many of `rest` nodes and marked these entries' records
 abbrev pub ends : ℕ → List ℕ → ℕ → List Entry → Walk
-ends rest marks many es = record { passed = true; rest = rest - many; marks = marked marks es }
+ends rest marks many es = record { rest = Some (rest - many); marks = marked marks es }
 
 -- each value record that they name passes as a leaf's
 abbrev pub LiveAll : ℕ → List ℕ → List Entry → Type 0
@@ -97,4 +97,4 @@ module _ (n : ℕ) (h : Header) (ws : List ℕ) (clean : Clean h ws) where
           ≡ ends rest marks (nodes_in l + nodes_in r + 1) (entries l ++ entries r)
       go x y =
           rw (visit_passes rest parent low key right (inner i a p l r) k s (omega arith), k.here, x, y)
-          (λ ι. record { passed = true; rest = count ι; marks = marks_are ι })
+          (λ ι. record { rest = Some (count ι); marks = marks_are ι })

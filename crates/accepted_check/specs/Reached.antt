@@ -1,6 +1,7 @@
 -- A walk that passes has gone over a tree that the image holds: what a visited node that passes is, and, node by node, the
 -- tree.
-use Rattle.std.specs.Prelude.{◌≡◌, ◌≢◌, ◌⊎◌, Bool, cond, ◌&&◌, get_or, set}
+use Rattle.std.specs.Prelude.{◌≡◌, ◌≢◌, ◌⊎◌, Option, Some, None, Bool, cond, ◌&&◌, get_or, set}
+use Rattle.std.specs.Option.{is_some}
 use Rattle.std.proofs.Math.Path.{refl, sym, ap}
 use Rattle.std.proofs.Common.{◌∙◌, inl, inr, arith}
 use mathlib.Core.List.{List}
@@ -16,8 +17,8 @@ use Rattle.records.specs.declared.Header.{Header}
 use Rattle.records.specs.declared.Node.{Node}
 use Rattle.records.specs.Records.{node_of, padding_of, value_record_of}
 use Rattle.inspection.specs.Tests.{is_leaf, is_fork, form_ok, node_ok, live_value}
-use Rattle.inspection.specs.Visit.{passed}
-use Rattle.full_check.specs.Walk.{Walk, failed, visit_ok, leaf_walk, joined, walk_of}
+use Rattle.inspection.specs.Visit as visit
+use Rattle.full_check.specs.Walk.{Walk, failed, passed, visit_ok, leaf_walk, go_on, joined, walk_of}
 use Rattle.lists.specs.Lists.{all_append}
 use Rattle.trees.specs.Tree.{Tree, leaf, inner, top, key_of, prefix_of, entries, Each, Side, Ordered}
 use Rattle.trees.specs.Nodes.{In}
@@ -80,7 +81,7 @@ module _ (h : Header) (ws : List ℕ) (i above low : ℕ) (ok : node_ok h ws i a
                   key = x.key;
                   prefix = long ι;
                 };
-            rises = omega (arith, (passed h ws i above low ok).rises);
+            rises = omega (arith, (visit.passed h ws i above low ok).rises);
             value_some = leb-true 1 x.value.0 (search (and_l, and_r) depth 8);
             value_used = ltb-true x.value.0 h.values.bump (search (and_l, and_r) depth 8);
           }
@@ -109,7 +110,7 @@ module _ (h : Header) (ws : List ℕ) (i above low : ℕ) (ok : node_ok h ws i a
                     key = x.key;
                     prefix = x.prefix;
                   };
-              rises = (passed h ws i above low ok).rises;
+              rises = (visit.passed h ws i above low ok).rises;
               short = ltb-true x.prefix 128 (search (and_l, and_r) depth 8);
               two = λ e. eqb-false x.left.0 x.right.0 two (sym at_left ∙ e ∙ at_right);
               on_left = a;
@@ -127,7 +128,9 @@ pub record Reached (n : ℕ) (h : Header) (ws : List ℕ) (rest : ℕ) (marks : 
   pub clean : (x : ℕ) → In x tree → padding_of ws x ≡ 0
   pub ordered : Ordered tree
   pub on_side : OnSide low key right (key_of tree)
-  pub counted : nodes_in tree + w.rest ≡ rest
+  pub left : ℕ
+  pub left_are : w.rest ≡ Some left
+  pub counted : nodes_in tree + left ≡ rest
   pub fresh : Fresh marks (entries tree)
   pub live : LiveAll n ws (entries tree)
   pub marks_are : w.marks ≡ marked marks (entries tree)
@@ -148,7 +151,7 @@ module _ (n : ℕ) (h : Header) (ws : List ℕ) (small : Small ws) where
   leaf_passes marks i = live_value n ws i (node_of ws i).value.0 && eqb (get_or marks ((node_of ws i).value.0 - 1) 0) 0
 
   abbrev leaf_end : ℕ → List ℕ → ℕ → Walk
-  leaf_end rest marks i = record { passed = true; rest = rest - 1; marks = set marks ((node_of ws i).value.0 - 1) 1 }
+  leaf_end rest marks i = record { rest = Some (rest - 1); marks = set marks ((node_of ws i).value.0 - 1) 1 }
 
   module _ (rest : ℕ) (marks : List ℕ) (i above low : ℕ) (key : Key) (right : Bool) where
     abbrev To : Walk → Type 0
@@ -177,16 +180,18 @@ module _ (n : ℕ) (h : Header) (ws : List ℕ) (small : Small ws) where
             clean = λ y q. rw q (node_clean h ws i above low node_accepted);
             ordered = (node_fits ws i small).key_fits;
             on_side = side_accepted;
+            left = rest - 1;
+            left_are = refl;
             counted = omega (arith, rest_some);
             fresh = (eqb-true (get_or marks ((node_of ws i).value.0 - 1) 0) 0 (search and_r), tt);
             live = (live_rules n ws i (node_of ws i).value.0 (search and_l), tt);
             marks_are = refl;
           }
 
-      inner_reached : (node_of ws i).value.0 ≡ 0 → (l r : Walk) → ReachedBelow (rest - 1) marks i false l
-          → ReachedBelow l.rest l.marks i true r → To r
+      inner_reached : (node_of ws i).value.0 ≡ 0 → (l r : Walk) (more : ℕ) → l.rest ≡ Some more → ReachedBelow (rest - 1) marks i false l
+          → ReachedBelow more l.marks i true r → To r
       unfolding Holds nodes_in
-      inner_reached z l r a b =
+      inner_reached z l r more on a b =
           record {
             tree = inner i (node_of ws i).key (node_of ws i).prefix a.tree b.tree;
             at_top = refl;
@@ -202,7 +207,9 @@ module _ (n : ℕ) (h : Header) (ws : List ℕ) (small : Small ws) where
                   on_right = b.ordered;
                 };
             on_side = side_accepted;
-            counted = omega (arith, rest_some, a.counted, b.counted);
+            left = b.left;
+            left_are = b.left_are;
+            counted = let same : more ≡ a.left = cc in omega (arith, rest_some, a.counted, b.counted);
             fresh = fresh_append marks (entries a.tree) (entries b.tree) a.fresh (rw a.marks_are at b.fresh);
             live = all_append (λ (e : Entry). Live (value_record_of n ws e.1)) (entries a.tree) (entries b.tree) a.live b.live;
             marks_are =
@@ -227,33 +234,33 @@ module _ (n : ℕ) (h : Header) (ws : List ℕ) (small : Small ws) where
 
   -- A walk that passes has reached a tree.
   pub walk_reaches : (fuel rest : ℕ) (marks : List ℕ) (i above low : ℕ) (key : Key) (right : Bool)
-      → (walk_of fuel n h ws rest marks i above low key right).passed ≡ true
+      → passed (walk_of fuel n h ws rest marks i above low key right) ≡ true
       → Reached n h ws rest marks i above low key right (walk_of fuel n h ws rest marks i above low key right)
   unfolding walk_of joined leaf_walk
   walk_reaches zero rest marks i above low key right = λ f. absurd (false≢true f)
   walk_reaches (suc fuel) rest marks i above low key right =
-      go (visit_ok h ws rest i above low key right) (eqb (node_of ws i).value.0 0) left.passed (leaf_passes marks i)
+      go (visit_ok h ws rest i above low key right) (eqb (node_of ws i).value.0 0) left.rest (leaf_passes marks i)
       refl refl refl refl
       (walk_reaches fuel (rest - 1) marks (below i false) i ((node_of ws i).prefix + 1) (node_of ws i).key false)
-      (walk_reaches fuel left.rest left.marks (below i true) i ((node_of ws i).prefix + 1) (node_of ws i).key true)
+      (λ more. walk_reaches fuel more left.marks (below i true) i ((node_of ws i).prefix + 1) (node_of ws i).key true)
     where
       left : Walk
       left = walk_below fuel (rest - 1) marks i false
 
-      behind : Walk
-      behind = walk_below fuel left.rest left.marks i true
+      behind : ℕ → Walk
+      behind more = walk_below fuel more left.marks i true
 
       goal : Walk → Type 0
-      goal w = w.passed ≡ true → To rest marks i above low key right w
+      goal w = passed w ≡ true → To rest marks i above low key right w
 
-      go : (visited forks on live : Bool) → visit_ok h ws rest i above low key right ≡ visited → eqb (node_of ws i).value.0 0 ≡ forks
-          → left.passed ≡ on → leaf_passes marks i ≡ live
-          → (left.passed ≡ true → ReachedBelow (rest - 1) marks i false left)
-          → (behind.passed ≡ true → ReachedBelow left.rest left.marks i true behind)
-          → goal (cond visited (cond forks (cond on behind left) (cond live (leaf_end rest marks i) (failed marks))) (failed marks))
+      go : (visited forks : Bool) (on : Option ℕ) (live : Bool) → visit_ok h ws rest i above low key right ≡ visited
+          → eqb (node_of ws i).value.0 0 ≡ forks → left.rest ≡ on → leaf_passes marks i ≡ live
+          → (passed left ≡ true → ReachedBelow (rest - 1) marks i false left)
+          → ((more : ℕ) → passed (behind more) ≡ true → ReachedBelow more left.marks i true (behind more))
+          → goal (cond visited (cond forks (go_on on left behind) (cond live (leaf_end rest marks i) (failed marks))) (failed marks))
       go false forks on live p q r s a b f = absurd (false≢true f)
-      go true true false live p q r s a b f = absurd (false≢true (sym r ∙ f))
-      go true true true live p q r s a b f =
-          inner_reached rest marks i above low key right p (eqb-true (node_of ws i).value.0 0 q) left behind (a r) (b f)
+      go true true None live p q r s a b f = absurd (false≢true (sym (ap is_some r) ∙ f))
+      go true true (Some more) live p q r s a b f =
+          inner_reached rest marks i above low key right p (eqb-true (node_of ws i).value.0 0 q) left (behind more) more r (a (ap is_some r)) (b more f)
       go true false on false p q r s a b f = absurd (false≢true f)
       go true false on true p q r s a b f = leaf_reached rest marks i above low key right p (eqb-false (node_of ws i).value.0 0 q) s

@@ -18,8 +18,7 @@ use Rattle.descent.specs.Found.{stop_leaf}
 use Rattle.inspection.specs.Visit.{live_of}
 use Rattle.descent.specs.declared.Stop.{Stop}
 use Rattle.descent.specs.declared.Stop.TheVariants as stop
-use Rattle.descent.specs.declared.Turn.{Turn}
-use Rattle.descent.specs.Descent.{lookup_turn, end_turn, descend, from_root, find_of}
+use Rattle.descent.specs.Descent.{Turn, lookup_turn, end_turn, descend, from_root, find_of}
 use Rattle.lookup.specs.Start.{length_of, opened_length, capacity_reply, opened_capacity}
 use Rattle.lookup.specs.Get.{live_target, stop_target, opened_target, target_of, target_got, get_of, stop_done, opened_done, contains_of, stop_place, opened_place, addr_of, leaf_place, leaf_done, leaf_target}
 use Rattle.lookup.specs.Ends.{target_entry, opened_entry, end_entry}

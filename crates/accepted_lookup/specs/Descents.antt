@@ -15,9 +15,8 @@ use Rattle.records.specs.declared.NodeIndex.{NodeIndex}
 use Rattle.records.specs.Records.{node_of, leaf_node}
 use Rattle.descent.specs.declared.Stop.{Stop}
 use Rattle.descent.specs.declared.Stop.TheVariants as stop
-use Rattle.descent.specs.declared.Turn.{Turn}
-use Rattle.descent.specs.declared.Turn.TheVariants.{Down, Halt}
-use Rattle.descent.specs.Descent.{is_inner, child_of, lookup_turn, bits_turn, side_of, end_turn, turn_at, descend}
+use Rattle.std.specs.declared.ops.ControlFlow.TheVariants.{Break}
+use Rattle.descent.specs.Descent.{Turn, down, is_inner, child_of, lookup_turn, bits_turn, side_of, end_turn, turn_at, descend}
 use Rattle.lists.specs.Entries.{same}
 use Rattle.trees.specs.Keys.{shared, bit, Cmp, Bit, Same, test≤, testb, test_same, itself}
 use Rattle.trees.specs.Tree.{Tree, leaf, inner, top, key_of}
@@ -96,7 +95,7 @@ landed_node h ws side parent low (inner i a p l r) k =
 
 -- a turn that takes a side at each inner node
 abbrev pub Sided : (ℕ → Bool) → (NodeIndex → Node → Turn) → Type 0
-Sided side turn = (i : NodeIndex) (x : Node) → turn i x ≡ cond (is_inner x) (Down (side_of (side x.prefix) x) (x.prefix + 1)) (Halt (stop.Leaf i x))
+Sided side turn = (i : NodeIndex) (x : Node) → turn i x ≡ cond (is_inner x) (down (side_of (side x.prefix) x) (x.prefix + 1)) (Break (stop.Leaf i x))
 
 pub bits_sided : (key : Key) → Sided (bit key) (bits_turn key)
 unfolding bits_turn child_of

@@ -19,9 +19,8 @@ use Rattle.records.specs.Records.{node_of}
 use Rattle.inspection.specs.Tests.{node_ok, root_ok}
 use Rattle.descent.specs.declared.Stop.{Stop}
 use Rattle.descent.specs.declared.Stop.TheVariants.{Leaf, Empty, Damaged}
-use Rattle.descent.specs.declared.Turn.{Turn}
-use Rattle.descent.specs.declared.Turn.TheVariants.{Down, Halt}
-use Rattle.descent.specs.Descent.{is_inner, child_of, bits_turn, side_of, end_turn, turn_at, follow, descend, no_node, from_root, leaf_of, end_of}
+use Rattle.std.specs.declared.ops.ControlFlow.TheVariants.{Break}
+use Rattle.descent.specs.Descent.{Turn, down, is_inner, child_of, bits_turn, side_of, end_turn, turn_at, follow, descend, no_node, from_root, leaf_of, end_of}
 use Rattle.inspection.specs.Visit.{passed}
 use Rattle.descent.specs.Laws.{Turns, went_down}
 
@@ -39,7 +38,7 @@ pub data Reached : Stop → Type 0 where
 
 -- a turn that halts at leaves alone
 abbrev Unparted : (NodeIndex → Node → Turn) → Type 0
-Unparted turn = (i : NodeIndex) (x : Node) → ((c : NodeIndex) × (p : ℕ) × (turn i x ≡ Down c p)) ⊎ (turn i x ≡ Halt (Leaf i x))
+Unparted turn = (i : NodeIndex) (x : Node) → ((c : NodeIndex) × (p : ℕ) × (turn i x ≡ down c p)) ⊎ (turn i x ≡ Break (Leaf i x))
 
 module _ (turn : NodeIndex → Node → Turn) (unparted : Unparted turn) (h : Header) (ws : List ℕ) where
   reaches : (fuel : ℕ) (i above : NodeIndex) (low : ℕ) → Reached (descend turn fuel h ws i above low)
@@ -48,9 +47,9 @@ module _ (turn : NodeIndex → Node → Turn) (unparted : Unparted turn) (h : He
   reaches (suc fuel) i above low =
       go (node_ok h ws i.0 above.0 low) (unparted i (node_of ws i.0)) (λ c p. reaches fuel c i p)
     where
-      go : (ok : Bool) → ((c : NodeIndex) × (p : ℕ) × (turn i (node_of ws i.0) ≡ Down c p)) ⊎ (turn i (node_of ws i.0) ≡ Halt (Leaf i (node_of ws i.0)))
+      go : (ok : Bool) → ((c : NodeIndex) × (p : ℕ) × (turn i (node_of ws i.0) ≡ down c p)) ⊎ (turn i (node_of ws i.0) ≡ Break (Leaf i (node_of ws i.0)))
           → ((c : NodeIndex) (p : ℕ) → Reached (descend turn fuel h ws c i p))
-          → Reached (follow (λ c next. descend turn fuel h ws c i next) (cond ok (turn i (node_of ws i.0)) (Halt Damaged)))
+          → Reached (follow (λ c next. descend turn fuel h ws c i next) (cond ok (turn i (node_of ws i.0)) (Break Damaged)))
       go false t on = fails
       go true (inl (c, p, e)) on = rw e (on c p)
       go true (inr e) on = rw e (leaf i (node_of ws i.0))
@@ -68,7 +67,7 @@ module _ (turn : NodeIndex → Node → Turn) (unparted : Unparted turn) (h : He
       go false t false = inr (eqb-false h.values.size 0 t, fails)
 
 to_leaf : (inner : Bool) (c : NodeIndex) (p : ℕ) (s : Stop)
-    → ((d : NodeIndex) × (q : ℕ) × (cond inner (Down c p) (Halt s) ≡ Down d q)) ⊎ (cond inner (Down c p) (Halt s) ≡ Halt s)
+    → ((d : NodeIndex) × (q : ℕ) × (cond inner (down c p) (Break s) ≡ down d q)) ⊎ (cond inner (down c p) (Break s) ≡ Break s)
 to_leaf true c p s = inl (c, p, refl)
 to_leaf false c p s = inr refl
 
@@ -113,9 +112,9 @@ module _ (right : Bool) (h : Header) (ws : List ℕ) where
           → descend (bits_turn (all_bits right)) fuel h ws (side_of right (node_of ws i.0)) i ((node_of ws i.0).prefix + 1)
           ≡ descend (end_turn right) fuel h ws (side_of right (node_of ws i.0)) i ((node_of ws i.0).prefix + 1)
           → follow (λ c next. descend (bits_turn (all_bits right)) fuel h ws c i next)
-          (cond ok (cond inner (Down (cond (bit_of (number_of (all_bits right)) (node_of ws i.0).prefix) (node_of ws i.0).right (node_of ws i.0).left) ((node_of ws i.0).prefix + 1)) (Halt (Leaf i (node_of ws i.0)))) (Halt Damaged))
+          (cond ok (cond inner (down (cond (bit_of (number_of (all_bits right)) (node_of ws i.0).prefix) (node_of ws i.0).right (node_of ws i.0).left) ((node_of ws i.0).prefix + 1)) (Break (Leaf i (node_of ws i.0)))) (Break Damaged))
           ≡ follow (λ c next. descend (end_turn right) fuel h ws c i next)
-          (cond ok (cond inner (Down (side_of right (node_of ws i.0)) ((node_of ws i.0).prefix + 1)) (Halt (Leaf i (node_of ws i.0)))) (Halt Damaged))
+          (cond ok (cond inner (down (side_of right (node_of ws i.0)) ((node_of ws i.0).prefix + 1)) (Break (Leaf i (node_of ws i.0)))) (Break Damaged))
       go false t inner v on = refl
       go true t false v on = refl
       go true t true v on =

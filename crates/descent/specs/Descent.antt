@@ -11,8 +11,15 @@ use Rattle.records.specs.Records.{node_of}
 use Rattle.inspection.specs.Tests.{node_ok, root_ok}
 use Rattle.descent.specs.declared.Stop.{Stop}
 use Rattle.descent.specs.declared.Stop.TheVariants.{Leaf, Parted, Empty, Damaged}
-use Rattle.descent.specs.declared.Turn.{Turn}
-use Rattle.descent.specs.declared.Turn.TheVariants.{Down, Halt}
+use Rattle.std.specs.declared.ops.ControlFlow.{ControlFlow}
+use Rattle.std.specs.declared.ops.ControlFlow.TheVariants.{Continue, Break}
+
+-- What a turn comes to: the child to go to and the least prefix length that it may have, or the end.
+abbrev pub Turn : Type 0
+Turn = ControlFlow Stop (NodeIndex × ℕ)
+
+abbrev pub down : NodeIndex → ℕ → Turn
+down c p = Continue (c, p)
 
 -- ---- turns, at a tested node x of index i
 
@@ -31,29 +38,29 @@ shared_with key x = common (number_of key) (number_of x.key)
 unfoldable pub lookup_turn : Key → NodeIndex → Node → Turn
 lookup_turn key i x =
     cond (ltb (shared_with key x) x.prefix)
-    (Halt (Parted i x (shared_with key x)))
-    (cond (is_inner x) (Down (child_of key x) (x.prefix + 1)) (Halt (Leaf i x)))
+    (Break (Parted i x (shared_with key x)))
+    (cond (is_inner x) (down (child_of key x) (x.prefix + 1)) (Break (Leaf i x)))
 
 -- Remove compares no prefix on its way
 unfoldable pub bits_turn : Key → NodeIndex → Node → Turn
-bits_turn key i x = cond (is_inner x) (Down (child_of key x) (x.prefix + 1)) (Halt (Leaf i x))
+bits_turn key i x = cond (is_inner x) (down (child_of key x) (x.prefix + 1)) (Break (Leaf i x))
 
 -- `find_min` goes to the left, `find_max` to the right
 abbrev pub side_of : Bool → Node → NodeIndex
 side_of right x = cond right x.right x.left
 
 unfoldable pub end_turn : Bool → NodeIndex → Node → Turn
-end_turn right i x = cond (is_inner x) (Down (side_of right x) (x.prefix + 1)) (Halt (Leaf i x))
+end_turn right i x = cond (is_inner x) (down (side_of right x) (x.prefix + 1)) (Break (Leaf i x))
 
 -- ---- the descent
 
 -- at node i, reached from the node above, with the least prefix length that it may have
 unfoldable pub turn_at : (NodeIndex → Node → Turn) → Header → List ℕ → NodeIndex → NodeIndex → ℕ → Turn
-turn_at turn h ws i above low = cond (node_ok h ws i.0 above.0 low) (turn i (node_of ws i.0)) (Halt Damaged)
+turn_at turn h ws i above low = cond (node_ok h ws i.0 above.0 low) (turn i (node_of ws i.0)) (Break Damaged)
 
 abbrev pub follow : (NodeIndex → ℕ → Stop) → Turn → Stop
-follow go (Down i low) = go i low
-follow go (Halt s) = s
+follow go (Continue (i, low)) = go i low
+follow go (Break s) = s
 
 -- each node's prefix length exceeds that of the node above and is at most 128: so 129 nodes are enough
 unfoldable pub descend : (NodeIndex → Node → Turn) → ℕ → Header → List ℕ → NodeIndex → NodeIndex → ℕ → Stop

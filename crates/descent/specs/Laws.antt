@@ -19,23 +19,22 @@ use Rattle.inspection.specs.declared.Visited.TheVariants as visited
 use Rattle.inspection.specs.Visit.{visit_of, came_through, came_node, came_inner, came_leaf, came_damaged, passed}
 use Rattle.descent.specs.declared.Stop.{Stop}
 use Rattle.descent.specs.declared.Stop.TheVariants.{Parted, Damaged}
-use Rattle.descent.specs.declared.Turn.{Turn}
-use Rattle.descent.specs.declared.Turn.TheVariants.{Down, Halt}
-use Rattle.descent.specs.Descent.{is_inner, child_of, side_of, shared_with, lookup_turn, turn_at, follow, descend}
+use Rattle.std.specs.declared.ops.ControlFlow.TheVariants.{Break}
+use Rattle.descent.specs.Descent.{Turn, down, is_inner, child_of, side_of, shared_with, lookup_turn, turn_at, follow, descend}
 
 -- ---- a turn goes down from an inner node alone, and to the next longer prefix
 
 abbrev pub Turns : (NodeIndex → Node → Turn) → Type 0
-Turns turn = (i : NodeIndex) (x : Node) (c : NodeIndex) (p : ℕ) → turn i x ≡ Down c p → (x.value.0 ≡ 0) × (x.prefix + 1 ≡ p)
+Turns turn = (i : NodeIndex) (x : Node) (c : NodeIndex) (p : ℕ) → turn i x ≡ down c p → (x.value.0 ≡ 0) × (x.prefix + 1 ≡ p)
 
-never_down : {s : Stop} {c : NodeIndex} {p : ℕ} → Halt s ≡ Down c p → ⊥
+never_down : {s : Stop} {c : NodeIndex} {p : ℕ} → Break s ≡ down c p → ⊥
 never_down e = let z : ◌≡◌ {A = ℕ} 0 1 = cc in omega arith
 
-pub went_down : (inner : Bool) (c₀ c : NodeIndex) (p₀ p : ℕ) (s : Stop) → cond inner (Down c₀ p₀) (Halt s) ≡ Down c p → (inner ≡ true) × (p₀ ≡ p)
-went_down true c₀ c p₀ p s e = (refl, cc)
+pub went_down : (inner : Bool) (c₀ c : NodeIndex) (p₀ p : ℕ) (s : Stop) → cond inner (down c₀ p₀) (Break s) ≡ down c p → (inner ≡ true) × (p₀ ≡ p)
+went_down true c₀ c p₀ p s e = let same : ◌≡◌ {A = NodeIndex × ℕ} (c₀, p₀) (c, p) = cc in (refl, ap (λ (q : NodeIndex × ℕ). q.1) same)
 went_down false c₀ c p₀ p s e = absurd (never_down e)
 
-past_test : (b : Bool) (s : Stop) (t : Turn) (c : NodeIndex) (p : ℕ) → cond b (Halt s) t ≡ Down c p → t ≡ Down c p
+past_test : (b : Bool) (s : Stop) (t : Turn) (c : NodeIndex) (p : ℕ) → cond b (Break s) t ≡ down c p → t ≡ down c p
 past_test true s t c p e = absurd (never_down e)
 past_test false s t c p e = e
 
@@ -49,11 +48,11 @@ lookup_turns key i x c p e =
 
 module _ (turn : NodeIndex → Node → Turn) (turns : Turns turn) (h : Header) (ws : List ℕ) (i above : NodeIndex) (low : ℕ) where
   -- it goes to a longer prefix, at most 128
-  pub rises : (c : NodeIndex) (p : ℕ) → turn_at turn h ws i above low ≡ Down c p → (low < p) × (p ≤ 128)
+  pub rises : (c : NodeIndex) (p : ℕ) → turn_at turn h ws i above low ≡ down c p → (low < p) × (p ≤ 128)
   unfolding turn_at
   rises c p e = go (node_ok h ws i.0 above.0 low) refl e
     where
-      go : (b : Bool) → node_ok h ws i.0 above.0 low ≡ b → cond b (turn i (node_of ws i.0)) (Halt Damaged) ≡ Down c p → (low < p) × (p ≤ 128)
+      go : (b : Bool) → node_ok h ws i.0 above.0 low ≡ b → cond b (turn i (node_of ws i.0)) (Break Damaged) ≡ down c p → (low < p) × (p ≤ 128)
       go false t d = absurd (never_down d)
       go true t d =
           let k = passed h ws i.0 above.0 low t in
@@ -61,7 +60,7 @@ module _ (turn : NodeIndex → Node → Turn) (turns : Turns turn) (h : Header) 
           omega (arith, k.rises, k.inner q.0, q.1)
 
   module _ (whole : Stop) (fuel : ℕ) (enough : 129 ≤ fuel + low) (small : low ≤ 128) (rest : descend turn fuel h ws i above low ≡ whole) where
-    pub again : (c : NodeIndex) (p : ℕ) → turn_at turn h ws i above low ≡ Down c p
+    pub again : (c : NodeIndex) (p : ℕ) → turn_at turn h ws i above low ≡ down c p
         → (f : ℕ) × (129 ≤ f + p) × (descend turn f h ws c i p ≡ whole)
     unfolding descend
     again c p e = go fuel enough rest
@@ -70,7 +69,7 @@ module _ (turn : NodeIndex → Node → Turn) (turns : Turns turn) (h : Header) 
         go zero n r = absurd (omega arith)
         go (suc g) n r = (g, omega (arith, rises c p e), sym (ap (follow (λ d next. descend turn g h ws d i next)) e) ∙ r)
 
-    pub halts : (s : Stop) → turn_at turn h ws i above low ≡ Halt s → s ≡ whole
+    pub halts : (s : Stop) → turn_at turn h ws i above low ≡ Break s → s ≡ whole
     unfolding descend
     halts s e = go fuel enough rest
       where
@@ -95,7 +94,7 @@ module _ (turn : NodeIndex → Node → Turn) (h : Header) (ws : List ℕ) (i ab
   pub turn_leaf : (x : Node) → visit_of h ws i.0 above.0 low ≡ visited.Leaf x → (turn_at turn h ws i above low ≡ turn i x) × (is_inner x ≡ false)
   turn_leaf x e = (at_node x (inr e), came_leaf h ws i.0 above.0 low x e)
 
-  pub turn_damaged : visit_of h ws i.0 above.0 low ≡ visited.Damaged → turn_at turn h ws i above low ≡ Halt Damaged
+  pub turn_damaged : visit_of h ws i.0 above.0 low ≡ visited.Damaged → turn_at turn h ws i above low ≡ Break Damaged
   unfolding turn_at
   turn_damaged e = rw (came_damaged h ws i.0 above.0 low e)
 
@@ -105,12 +104,12 @@ module _ (key : Key) (h : Header) (ws : List ℕ) (i above : NodeIndex) (low : �
   found = turn_inner (lookup_turn key) h ws i above low x e
 
   pub turn_side : (one : Bool) → way_of (number_of key) (number_of x.key) x.prefix ≡ way_to one
-      → turn_at (lookup_turn key) h ws i above low ≡ Down (side_of one x) (x.prefix + 1)
+      → turn_at (lookup_turn key) h ws i above low ≡ down (side_of one x) (x.prefix + 1)
   unfolding lookup_turn child_of
   turn_side one q =
       let way = way_side (number_of key) (number_of x.key) x.prefix one q in
       found.0 ∙ rw (way.0, found.1, way.1)
 
-  pub turn_parts : way_of (number_of key) (number_of x.key) x.prefix ≡ Parts → turn_at (lookup_turn key) h ws i above low ≡ Halt (Parted i x (shared_with key x))
+  pub turn_parts : way_of (number_of key) (number_of x.key) x.prefix ≡ Parts → turn_at (lookup_turn key) h ws i above low ≡ Break (Parted i x (shared_with key x))
   unfolding lookup_turn
   turn_parts q = found.0 ∙ rw (way_parts (number_of key) (number_of x.key) x.prefix q)

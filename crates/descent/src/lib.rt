@@ -5,15 +5,19 @@
 
 ghost use Rattle.std.specs.Prelude.{◌≡◌, ◌+◌, ◌*◌, ◌<◌, ◌≤◌, length};
 ghost use Rattle.words.specs.Words.{words};
+ghost use Rattle.records.specs.declared.Node.{Node};
+ghost use Rattle.records.specs.declared.NodeIndex.{NodeIndex};
 ghost use Rattle.inspection.specs.Room.{Room};
-ghost use Rattle.descent.specs.Bits.{all_bits};
+ghost use Rattle.descent.specs.Bits.{all_bits, bits_turns};
 ghost use Rattle.descent.specs.Found.{stop_leaf};
-ghost use Rattle.descent.specs.Descent.{child_of, lookup_turn, bits_turn, turn_at, descend, find_of, leaf_of, end_of};
+ghost use Rattle.descent.specs.Descent.{Turn, child_of, lookup_turn, bits_turn, turn_at, from_root, find_of, leaf_of, end_of};
+ghost use Rattle.descent.specs.Laws.{Turns, lookup_turns};
 
 use inspection::Visited;
 use inspection::visit::{root_ok, visit};
 use keys::{Key, Way, bit, goes, leading_equal};
 use records::{Header, Node, NodeIndex, Refusal};
+use std::ops::ControlFlow::{self, Break, Continue};
 
 // Why a descent stopped, and where: at a leaf that fits; at a node where the key parts from the map, with the number of bits that they share; in an
 // empty map; at damage.
@@ -40,62 +44,87 @@ impl Stop {
     }
 }
 
-// One node's answer: the child to go to and the least prefix length that it may have, or the end.
-#[derive(Clone, Copy)]
-pub enum Turn {
-    Down(NodeIndex, u64),
-    Halt(Stop),
+// What a turn at one node comes to: the child to go to and the least prefix length that it may have, or the end.
+type Turn = ControlFlow<Stop, (NodeIndex, u64)>;
+
+// What a descent goes by: the turn that it takes at a node, down from an inner node alone and to the next longer prefix. What a lookup and a remove do
+// differently is their turn; the loop is one, made anew for each.
+trait Descend: Copy {
+    ghost turn: { Self → NodeIndex → Node → Turn };
+
+    // One node of the descent, reached from the node above.
+    fn turn(self, img: &[u8], h: Header, i: NodeIndex, above: NodeIndex, low: u64) -> Turn
+        requires { Room h (length (words img.now)) }
+        ensures { result ≡ turn_at (turn self) h (words img.now) i above low };
+
+    ghost turns: { (by : Self) → Turns (turn by) };
 }
 
-// ---- by a key, prefixes compared
-
-// One node of the descent: damaged, parted, found, or down.
-fn lookup_turn(img: &[u8], h: Header, key: Key, i: NodeIndex, above: NodeIndex, low: u64) -> Turn
+// From the root, by the root's rule; in an empty map nothing is visited.
+#[tactic(auto, using(crate::proofs::Turns::steps), unfolding(crate::specs::Descent::from_root))]
+fn from_root<D: Descend>(img: &[u8], h: Header, by: D) -> Stop
     requires { Room h (length (words img.now)) }
-    ensures { result ≡ turn_at (lookup_turn key) h (words img.now) i above low }
+    ensures { result ≡ from_root (D.turn by) h (words img.now) }
 {
-    match visit(img, h, i, above, low) {
-        Visited::Inner(x) => {
-            let own = x.key;
-            match goes(key, own, x.prefix) {
-                Way::Left => {
-                    let left = x.left;
-                    Turn::Down(left, x.prefix + 1)
-                }
-                Way::Right => {
-                    let right = x.right;
-                    Turn::Down(right, x.prefix + 1)
-                }
-                Way::Parts => Turn::Halt(Stop::Parted(i, x, leading_equal(key, own))),
-            }
-        }
-        Visited::Leaf(x) => {
-            let own = x.key;
-            let shared = leading_equal(key, own);
-            if shared < x.prefix {
-                return Turn::Halt(Stop::Parted(i, x, shared));
-            }
-            Turn::Halt(Stop::Leaf(i, x))
-        }
-        Visited::Damaged => Turn::Halt(Stop::Damaged),
+    if h.values.size == 0 {
+        return Stop::Empty;
     }
-}
-
-fn descend_from(img: &[u8], h: Header, key: Key) -> Stop
-    requires { Room h (length (words img.now)) }
-    ensures { result ≡ descend (lookup_turn key) 129 h (words img.now) h.root (record { 0 = 0 }) 0 }
-{
+    if !root_ok(img, h) {
+        return Stop::Damaged;
+    }
     let mut at = h.root;
     let mut above = NodeIndex(0);
     let mut low: u64 = 0;
     loop {
-        match lookup_turn(img, h, key, at, above, low) {
-            Turn::Down(next, least) => {
+        match by.turn(img, h, at, above, low) {
+            Continue((next, least)) => {
                 above = at;
                 at = next;
                 low = least;
             }
-            Turn::Halt(stop) => break stop,
+            Break(stop) => break stop,
+        }
+    }
+}
+
+// ---- by a key, prefixes compared
+
+#[derive(Clone, Copy)]
+struct ByKey(Key);
+
+impl Descend for ByKey {
+    ghost turn = { λ by. lookup_turn by.0 };
+
+    ghost turns = { λ by. lookup_turns by.0 };
+
+    // Damaged, parted, found, or down.
+    #[tactic(auto, using(crate::proofs::Turns::lookup_turning))]
+    fn turn(self, img: &[u8], h: Header, i: NodeIndex, above: NodeIndex, low: u64) -> Turn {
+        let key = self.0;
+        match visit(img, h, i, above, low) {
+            Visited::Inner(x) => {
+                let own = x.key;
+                match goes(key, own, x.prefix) {
+                    Way::Left => {
+                        let left = x.left;
+                        Continue((left, x.prefix + 1))
+                    }
+                    Way::Right => {
+                        let right = x.right;
+                        Continue((right, x.prefix + 1))
+                    }
+                    Way::Parts => Break(Stop::Parted(i, x, leading_equal(key, own))),
+                }
+            }
+            Visited::Leaf(x) => {
+                let own = x.key;
+                let shared = leading_equal(key, own);
+                if shared < x.prefix {
+                    return Break(Stop::Parted(i, x, shared));
+                }
+                Break(Stop::Leaf(i, x))
+            }
+            Visited::Damaged => Break(Stop::Damaged),
         }
     }
 }
@@ -105,18 +134,13 @@ pub fn find(img: &[u8], h: Header, key: Key) -> Stop
     requires { Room h (length (words img.now)) }
     ensures { result ≡ find_of h (words img.now) key }
 {
-    if h.values.size == 0 {
-        return Stop::Empty;
-    }
-    if root_ok(img, h) {
-        return descend_from(img, h, key);
-    }
-    Stop::Damaged
+    from_root(img, h, ByKey(key))
 }
 
 // ---- by a key's bits alone
 
 // The child on the side of the key's bit at the node's prefix length.
+#[tactic(auto, unfolding(crate::specs::Descent::child_of))]
 fn child(key: Key, x: Node) -> NodeIndex
     ensures { result ≡ child_of key x }
 {
@@ -126,33 +150,22 @@ fn child(key: Key, x: Node) -> NodeIndex
     x.left
 }
 
-// One node of the descent: damaged, down, or the leaf.
-fn bits_turn(img: &[u8], h: Header, key: Key, i: NodeIndex, above: NodeIndex, low: u64) -> Turn
-    requires { Room h (length (words img.now)) }
-    ensures { result ≡ turn_at (bits_turn key) h (words img.now) i above low }
-{
-    match visit(img, h, i, above, low) {
-        Visited::Inner(x) => Turn::Down(child(key, x), x.prefix + 1),
-        Visited::Leaf(x) => Turn::Halt(Stop::Leaf(i, x)),
-        Visited::Damaged => Turn::Halt(Stop::Damaged),
-    }
-}
+#[derive(Clone, Copy)]
+struct ByBits(Key);
 
-fn leaf_from(img: &[u8], h: Header, key: Key) -> Stop
-    requires { Room h (length (words img.now)) }
-    ensures { result ≡ descend (bits_turn key) 129 h (words img.now) h.root (record { 0 = 0 }) 0 }
-{
-    let mut at = h.root;
-    let mut above = NodeIndex(0);
-    let mut low: u64 = 0;
-    loop {
-        match bits_turn(img, h, key, at, above, low) {
-            Turn::Down(next, least) => {
-                above = at;
-                at = next;
-                low = least;
-            }
-            Turn::Halt(stop) => break stop,
+impl Descend for ByBits {
+    ghost turn = { λ by. bits_turn by.0 };
+
+    ghost turns = { λ by. bits_turns by.0 };
+
+    // Damaged, down, or the leaf.
+    #[tactic(auto, using(crate::proofs::Turns::bits_turning))]
+    fn turn(self, img: &[u8], h: Header, i: NodeIndex, above: NodeIndex, low: u64) -> Turn {
+        let key = self.0;
+        match visit(img, h, i, above, low) {
+            Visited::Inner(x) => Continue((child(key, x), x.prefix + 1)),
+            Visited::Leaf(x) => Break(Stop::Leaf(i, x)),
+            Visited::Damaged => Break(Stop::Damaged),
         }
     }
 }
@@ -162,13 +175,7 @@ pub fn reach(img: &[u8], h: Header, key: Key) -> Stop
     requires { Room h (length (words img.now)) }
     ensures { result ≡ leaf_of h (words img.now) key }
 {
-    if h.values.size == 0 {
-        return Stop::Empty;
-    }
-    if root_ok(img, h) {
-        return leaf_from(img, h, key);
-    }
-    Stop::Damaged
+    from_root(img, h, ByBits(key))
 }
 
 // The key whose bits are all 0, or all 1.
@@ -185,6 +192,7 @@ fn all_bits(right: bool) -> Key
 }
 
 // The first leaf from the left, or from the right: the Rust's `find_min` and `find_max`.
+#[tactic(auto, using(crate::specs::Bits::end_bits))]
 pub fn find_end(img: &[u8], h: Header, right: bool) -> Stop
     requires { Room h (length (words img.now)) }
     ensures { result ≡ end_of h (words img.now) right }

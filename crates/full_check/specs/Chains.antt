@@ -1,7 +1,9 @@
 -- The free chains and the records that were never used: rules T11 to T13 and T15. One definition for both arenas, and behind it the turns of the loops that
 -- follow a chain.
-use Rattle.std.specs.Prelude.{◌≡◌, List, Bool, true, false, ◌&&◌, eqb, leb, ltb}
-use Rattle.std.proofs.Math.Path.{refl}
+use Rattle.std.specs.Prelude.{◌≡◌, List, Bool, true, false, ◌&&◌, Option, Some, None, eqb, leb, ltb}
+use Rattle.std.specs.Bool.{then_some}
+use Rattle.std.proofs.Math.Path.{refl, sym}
+use Rattle.std.proofs.lemmas.Option.{none-some}
 use Prim.Native.Nat.{ℕ, zero, suc, ◌+◌, ◌-◌, ◌*◌, ◌≤◌, ◌<◌}
 use native.Mathlib.Omega.{arith}
 use Rattle.words.specs.Zeros.{zeros_at}
@@ -16,9 +18,18 @@ unfoldable pub chain_of : (ℕ → Bool) → (ℕ → ℕ) → ℕ → ℕ → �
 chain_of free next bump zero i = eqb i bump
 chain_of free next bump (suc many) i = leb 1 i && ltb i bump && free i && chain_of free next bump many (next i)
 
+-- what a test of a record may answer is the record that it names as the next, if it passes
+abbrev pub Links : (ℕ → Bool) → (ℕ → ℕ) → ℕ → (ℕ → Option ℕ → Type 0) → Type 0
+Links free next bump answers = (i : ℕ) (r : Option ℕ) → 1 ≤ i → i < bump → answers i r → r ≡ then_some (free i) (next i)
+
 -- bump-1-size
 abbrev pub free_count : Counts → ℕ
 free_count c = c.bump - 1 - c.size
+
+-- whether the free records of an arena make a chain from its head to its bump, by a test that may answer so
+abbrev pub Chained : (ℕ → Option ℕ → Type 0) → Counts → Bool → Type 0
+Chained answers c result =
+    (free : ℕ → Bool) (next : ℕ → ℕ) → Links free next c.bump answers → result ≡ chain_of free next c.bump (free_count c) c.head
 
 -- whether a record passes the test of a free one, and what it names as the next
 abbrev pub node_free : Header → List ℕ → ℕ → Bool
@@ -69,3 +80,19 @@ module _ (free : ℕ → Bool) (next : ℕ → ℕ) (bump : ℕ) where
   unfolding chain_of
   chain_more zero i l u f = absurd (omega arith)
   chain_more (suc many) i l u f = let less : suc many - 1 ≡ many = omega arith in simp (u, f, less)
+
+  -- by what a test of the record answers
+  module _ (many i : ℕ) (some : 0 < many) (within : leb 1 i && ltb i bump ≡ true) where
+    pub chain_stops : None ≡ then_some (free i) (next i) → chain_of free next bump many i ≡ false
+    chain_stops e = go (free i) refl e
+      where
+        go : (b : Bool) → free i ≡ b → None ≡ then_some b (next i) → chain_of free next bump many i ≡ false
+        go true f x = absurd (none-some _ x)
+        go false f x = chain_taken many i some within f
+
+    pub chain_goes_on : (j : ℕ) → Some j ≡ then_some (free i) (next i) → chain_of free next bump many i ≡ chain_of free next bump (many - 1) j
+    chain_goes_on j e = go (free i) refl e
+      where
+        go : (b : Bool) → free i ≡ b → Some j ≡ then_some b (next i) → chain_of free next bump many i ≡ chain_of free next bump (many - 1) j
+        go true f x = let same : j ≡ next i = cc in rw same (chain_more many i some within f)
+        go false f x = absurd (none-some _ (sym x))

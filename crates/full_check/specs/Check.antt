@@ -1,5 +1,5 @@
 -- The full check's answer, and the scratch afterwards: rules T15 and T17.
-use Rattle.std.specs.Prelude.{List, ◌++◌, Bool, true, false, cond, ◌&&◌, ℕ, length, replicate, drop, eqb, leb, Err, Ok, Result}
+use Rattle.std.specs.Prelude.{List, ◌++◌, Option, Some, None, Bool, true, false, cond, ◌&&◌, ℕ, length, replicate, drop, eqb, leb, Err, Ok, Result}
 use Rattle.records.specs.declared.Refusal.{Refusal}
 use Rattle.records.specs.declared.Header.{Header}
 use Rattle.records.specs.declared.Refusal.TheVariants as no
@@ -17,10 +17,15 @@ unmarked m = replicate m 0
 unfoldable pub root_walk : ℕ → Header → List ℕ → List ℕ → Walk
 root_walk n h ws marks = walk_of 129 n h ws h.nodes.size marks h.root.0 0 0 zero_key false
 
+-- a walk passed and left no node to be reached
+abbrev pub all_reached : Option ℕ → Bool
+all_reached None = false
+all_reached (Some rest) = eqb rest 0
+
 -- the root keeps its rule, and the tree reaches as many nodes as node size says; an empty map has none
 unfoldable pub tree_ok : ℕ → Header → List ℕ → List ℕ → Bool
 tree_ok n h ws marks =
-    cond (eqb h.values.size 0) true (root_ok h ws && ((root_walk n h ws marks).passed && eqb (root_walk n h ws marks).rest 0))
+    cond (eqb h.values.size 0) true (root_ok h ws && all_reached (root_walk n h ws marks).rest)
 
 -- all records of an image whose header passed
 unfoldable pub records_ok : ℕ → ℕ → Header → List ℕ → Bool

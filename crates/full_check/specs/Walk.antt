@@ -2,8 +2,9 @@
 -- that node's key and has bit p 0 on the left and 1 on the right, and that the n leaves name n different value records. The rule for leaves is tested between
 -- a node and its children: a child's key shares its parent's p bits and has the side's bit, and so has every key that shares more of the child's. Value
 -- records that a leaf names are marked in the scratch.
-use Rattle.std.specs.Prelude.{List, Bool, true, false, cond, ◌&&◌, ◌||◌, ℕ, zero, suc, ◌+◌, ◌-◌, get_or, set, eqb, leb, ltb}
+use Rattle.std.specs.Prelude.{List, Option, Some, None, Bool, true, false, cond, ◌&&◌, ◌||◌, ℕ, zero, suc, ◌+◌, ◌-◌, get_or, set, eqb, leb, ltb}
 use Rattle.std.specs.Bool.{beq}
+use Rattle.std.specs.Option.{is_some}
 use Rattle.keys.specs.declared.Key.{Key}
 use Rattle.keys.specs.Number.{number_of}
 use Rattle.keys.specs.Common.{common, bit_of}
@@ -12,14 +13,16 @@ use Rattle.records.specs.declared.Node.{Node}
 use Rattle.records.specs.Records.{node_of}
 use Rattle.inspection.specs.Tests.{node_ok, live_value}
 
--- what a walk comes to: whether it passed, how many of the nodes that node size counts it left for the others to reach, and the marks it left
+-- what a walk comes to: how many of the nodes that node size counts it left for the others to reach, if it passed, and the marks it left
 pub record Walk : Type 0 where
-  pub passed : Bool
-  pub rest : ℕ
+  pub rest : Option ℕ
   pub marks : List ℕ
 
 abbrev pub failed : List ℕ → Walk
-failed marks = record { passed = false; rest = 0; marks = marks }
+failed marks = record { rest = None; marks = marks }
+
+abbrev pub passed : Walk → Bool
+passed w = is_some w.rest
 
 -- a child's key shares the first p bits of its parent's key and has bit p on its side; `low` is p + 1, and 0 at the root, which has no parent
 unfoldable pub side_ok : ℕ → Key → Bool → Node → Bool
@@ -35,12 +38,16 @@ visit_ok h ws rest i above low key right = node_ok h ws i above low && (side_ok 
 unfoldable pub leaf_walk : ℕ → List ℕ → ℕ → List ℕ → ℕ → Node → Walk
 leaf_walk n ws rest marks i x =
     cond (live_value n ws i x.value.0 && eqb (get_or marks (x.value.0 - 1) 0) 0)
-    (record { passed = true; rest = rest; marks = set marks (x.value.0 - 1) 1 })
+    (record { rest = Some rest; marks = set marks (x.value.0 - 1) 1 })
     (failed marks)
+
+abbrev pub go_on : Option ℕ → Walk → (ℕ → Walk) → Walk
+go_on None l right = l
+go_on (Some more) l right = right more
 
 -- the right half goes on where the left half ended, if that passed
 unfoldable pub joined : Walk → (ℕ → List ℕ → Walk) → Walk
-joined l right = cond l.passed (right l.rest l.marks) l
+joined l right = go_on l.rest l (λ more. right more l.marks)
 
 -- node i, reached from the node above, whose key is `key`, on the side `right`, with so many nodes to reach; prefix lengths rise, so that 129 nodes deep is enough
 unfoldable pub walk_of : ℕ → ℕ → Header → List ℕ → ℕ → List ℕ → ℕ → ℕ → ℕ → Key → Bool → Walk

@@ -1,6 +1,6 @@
 -- What the code of the walk answers and leaves, as a `Walk`, and what its proof goes by: the ways in which a walk comes to its end at a node. Prefix lengths rise from a node to its
 -- children and are at most 128, so that fuel which is enough at a node is enough below it.
-use Rattle.std.specs.Prelude.{◌≡◌, List, Bool, true, false, ◌&&◌, ◌⊎◌, ltb}
+use Rattle.std.specs.Prelude.{◌≡◌, List, Option, Some, None, Bool, true, false, ◌&&◌, ◌⊎◌, ltb}
 use Rattle.std.proofs.Math.Path.{refl}
 use Rattle.std.proofs.Common.{inl, inr, arith, pos_of_ne-zero, ltb-true}
 use Prim.Native.Nat.{ℕ, zero, suc, ◌+◌, ◌-◌, ◌≤◌, ◌<◌}
@@ -13,11 +13,10 @@ use Rattle.records.specs.Records.{node_of}
 use Rattle.inspection.specs.declared.Visited.TheVariants as visited
 use Rattle.inspection.specs.Tests.{node_ok}
 use Rattle.inspection.specs.Visit.{visit_of, came_through, came_node, came_inner, came_leaf, came_damaged, visit_passed}
-use Rattle.full_check.specs.declared.walk.Walked.{Walked}
 use Rattle.full_check.specs.Walk.{Walk, failed, side_ok, visit_ok, leaf_walk, joined, walk_of}
 
-abbrev pub walked : Walked → List ℕ → Walk
-walked r marks = record { passed = r.passed; rest = r.rest; marks = marks }
+abbrev pub walked : Option ℕ → List ℕ → Walk
+walked r marks = record { rest = r; marks = marks }
 
 -- the walk comes to w with any fuel that is enough
 abbrev pub WalksTo : ℕ → Header → List ℕ → ℕ → List ℕ → ℕ → ℕ → ℕ → Key → Bool → Walk → Type 0
@@ -62,16 +61,16 @@ module _ (n : ℕ) (h : Header) (ws : List ℕ) (rest : ℕ) (marks : List ℕ) 
         enough : (f : ℕ) → 129 ≤ suc f + low → 129 ≤ f + (x.prefix + 1)
         enough f k = omega (arith, below.0)
 
-        pub left_failed : l.passed ≡ false → WalksTo n h ws rest marks i above low key right l
+        pub left_failed : l.rest ≡ None → WalksTo n h ws rest marks i above low key right l
         unfolding walk_of visit_ok joined
         left_failed e zero k = absurd (omega arith)
         left_failed e (suc f) k = simp (ok x (inl came), ← node x (inl came), side, came_inner h ws i above low x came, ← left f (enough f k), e)
 
-        pub both : l.passed ≡ true → (r : Walk)
-            → WalksTo n h ws l.rest l.marks x.right.0 i (x.prefix + 1) x.key true r → WalksTo n h ws rest marks i above low key right r
+        pub both : (more : ℕ) → l.rest ≡ Some more → (r : Walk)
+            → WalksTo n h ws more l.marks x.right.0 i (x.prefix + 1) x.key true r → WalksTo n h ws rest marks i above low key right r
         unfolding walk_of visit_ok joined
-        both e r right zero k = absurd (omega arith)
-        both e r right (suc f) k = simp (ok x (inl came), ← node x (inl came), side, came_inner h ws i above low x came, ← left f (enough f k), e, ← right f (enough f k))
+        both more e r right zero k = absurd (omega arith)
+        both more e r right (suc f) k = simp (ok x (inl came), ← node x (inl came), side, came_inner h ws i above low x came, ← left f (enough f k), e, ← right f (enough f k))
 
 -- prefix lengths rise from a node to its children, so that the measure of a walk falls
 pub falls_below : (t low : ℕ) (x : Node) → t ≡ 129 - low → (low ≤ x.prefix) × (x.prefix < 128) → (129 - (x.prefix + 1) < t) × (x.prefix + 1 ≤ 128)

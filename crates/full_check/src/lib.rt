@@ -43,7 +43,7 @@ fn records_ok(img: &[u8], marks: &mut [u8], m: u32, n: u32, h: Header) -> bool
 }
 
 // The header, then the records, with no value record marked yet.
-#[tactic(auto, using(inspection::specs::Room::room, inspection::specs::Room::opened_words, inspection::specs::Room::shaped_opens, inspection::specs::Room::shaped_shut), unfolding(crate::specs::Check::opened_check))]
+#[tactic(auto, using(crate::proofs::Rules::opening), unfolding(crate::specs::Check::opened_check))]
 fn opened_check(img: &[u8], marks: &mut [u8], m: u32, n: u32) -> Result<(), Refusal>
     requires { (words marks.old ≡ unmarked m) × (shape_ok m n (length (image_of img.now)) ≡ true) }
     ensures { result ≡ opened_check m n (image_of img.now) (open_of m n (image_of img.now)) }
@@ -56,6 +56,7 @@ fn opened_check(img: &[u8], marks: &mut [u8], m: u32, n: u32) -> Result<(), Refu
 }
 
 // The same with a scratch of just M words, which is cleared before and after.
+#[tactic(auto, using(words::specs::Words::words_length))]
 fn cleared_check(img: &[u8], marks: &mut [u8], m: u32, n: u32) -> Result<(), Refusal>
     requires { (length (words marks.old) ≡ m) × (shape_ok m n (length (image_of img.now)) ≡ true) }
     ensures answer { result ≡ opened_check m n (image_of img.now) (open_of m n (image_of img.now)) }
@@ -69,6 +70,7 @@ fn cleared_check(img: &[u8], marks: &mut [u8], m: u32, n: u32) -> Result<(), Ref
 
 // `Ok` exactly if the header and all records pass. Refusal 1: the image's shape is not M's and N's, or the scratch has fewer than M words, and
 // then the scratch is not touched. Refusal 2: a test fails.
+#[tactic(auto, using(crate::proofs::Rules::outcomes), unfolding(crate::specs::Check::check_shape))]
 pub fn check(img: &[u8], m: u32, n: u32, scratch: &mut [u8]) -> Result<(), Refusal>
     ensures answer { result ≡ check_of m n (image_of img.now) (words scratch.old) }
     ensures scratch { ScratchLeft m scratch.old scratch.new (answer_number (check_of m n (image_of img.now) (words scratch.old))) (check_scratch m n (image_of img.now) (words scratch.old)) }

@@ -1,6 +1,6 @@
 // The walk over the tree: from the root to the left child, then to the right one, each node tested before it is relied on. The value
 // records that leaves name are marked, so that one named twice is found.
-ghost use Rattle.std.specs.Prelude.{◌≡◌, ◌&&◌, false, ◌+◌, ◌≤◌, ltb, length};
+ghost use Rattle.std.specs.Prelude.{◌≡◌, ◌&&◌, ◌+◌, ◌≤◌, ltb, length};
 ghost use Rattle.words.specs.Words.{words};
 ghost use Rattle.inspection.specs.Room.{Room};
 ghost use Rattle.full_check.specs.Walk.{side_ok, leaf_walk};
@@ -12,14 +12,27 @@ use inspection::visit::{live_value, root_ok, visit};
 use keys::{Key, bit, leading_equal};
 use records::{Header, Node, NodeIndex};
 
-// What a walk answers: whether every node passed, and how many nodes are left to be reached.
+// What a walk goes over: an image, its N, and its header, which gives room for every node below the bump.
 #[derive(Clone, Copy)]
-pub struct Walked {
-    pub passed: bool,
-    pub rest: u64,
+struct Image<'a> {
+    bytes: &'a [u8],
+    n: u32,
+    h: Header,
+    ghost room: { Room h (length (words bytes.now)) },
+}
+
+// Where a node is reached from: the node above, the least prefix length below that one, its key, and the side.
+#[derive(Clone, Copy)]
+struct Above {
+    at: NodeIndex,
+    low: u64,
+    key: Key,
+    right: bool,
+    ghost deep: { low ≤ 128 },
 }
 
 // A child's key shares its parent's prefix and has the side's bit behind it. `low` is one more than that prefix, and 0 at the root.
+#[tactic(auto, unfolding(crate::specs::Walk::side_ok))]
 fn side_ok(low: u64, key: Key, right: bool, x: Node) -> bool
     ensures { result ≡ side_ok low key right x }
 {
@@ -31,25 +44,18 @@ fn side_ok(low: u64, key: Key, right: bool, x: Node) -> bool
     (prefix <= leading_equal(key, own)) & (bit(own, prefix) == right)
 }
 
-// A child on its side, with so many nodes left to be reached.
-fn in_order(low: u64, key: Key, right: bool, rest: u64, x: Node) -> bool
-    ensures { result ≡ side_ok low key right x && ltb 0 rest }
-{
-    side_ok(low, key, right, x) & (0 < rest)
-}
-
-// A walk that failed reaches no more.
-fn lost() -> Walked
-    ensures { result ≡ record { passed = false; rest = 0 } }
-{
-    Walked {
-        passed: false,
-        rest: 0,
+impl Above {
+    // A child on its side, with so many nodes left to be reached.
+    fn in_order(&self, rest: u64, x: Node) -> bool
+        ensures { result ≡ side_ok self.now.low self.now.key self.now.right x && ltb 0 rest }
+    {
+        side_ok(self.low, self.key, self.right, x) & (0 < rest)
     }
 }
 
-// Leaf `i`: its value record is tested and marked.
-fn leaf_walk(img: &[u8], marks: &mut [u8], n: u32, rest: u64, i: NodeIndex, x: Node) -> Walked
+// Leaf `i`: its value record is tested and marked. A walk answers how many nodes are left to be reached, if every node passed.
+#[tactic(auto, using(inspection::specs::Visit::live_tested), unfolding(crate::specs::Walk::leaf_walk))]
+fn leaf_walk(img: &[u8], marks: &mut [u8], n: u32, rest: u64, i: NodeIndex, x: Node) -> Option<u64>
     requires { 1 ≤ x.value.0 }
     ensures { walked result (words marks.new) ≡ leaf_walk n (words img.now) rest (words marks.old) i.0 x }
 {
@@ -57,51 +63,43 @@ fn leaf_walk(img: &[u8], marks: &mut [u8], n: u32, rest: u64, i: NodeIndex, x: N
     let at = (j.0 - 1) as usize;
     if live_value(img, n, i, j).is_some() & (words::word(marks, at) == 0) {
         words::set_word(marks, at, 1);
-        return Walked { passed: true, rest };
+        return Some(rest);
     }
-    lost()
+    None
 }
 
-// Node `i`, reached from the node above, whose key is `key`, on the side `right`, and all nodes below it.
-fn walk(
-    img: &[u8],
-    marks: &mut [u8],
-    n: u32,
-    h: Header,
-    rest: u64,
-    i: NodeIndex,
-    above: NodeIndex,
-    low: u64,
-    key: Key,
-    right: bool,
-) -> Walked
-    requires { Room h (length (words img.now)) × (low ≤ 128) }
-    ensures { WalksTo n h (words img.now) rest (words marks.old) i.0 above.0 low key right (walked result (words marks.new)) }
+// Node `i`, reached from the node above, and all nodes below it.
+#[tactic(auto, using(crate::proofs::Rules::ends))]
+fn walk(image: &Image, marks: &mut [u8], rest: u64, i: NodeIndex, above: &Above) -> Option<u64>
+    ensures { WalksTo image.now.n image.now.h (words image.now.bytes.now) rest (words marks.old) i.0 above.now.at.0 above.now.low above.now.key above.now.right (walked result (words marks.new)) }
 {
-    match visit(img, h, i, above, low) {
+    match visit(image.bytes, image.h, i, above.at, above.low) {
         Visited::Inner(x) => {
-            if in_order(low, key, right, rest, x) {
-                let own = x.key;
-                let least = x.prefix + 1;
-                let l = walk(img, marks, n, h, rest - 1, x.left, i, least, own, false);
-                if l.passed {
-                    return walk(img, marks, n, h, l.rest, x.right, i, least, own, true);
-                }
-                return l;
+            if above.in_order(rest, x) {
+                let mut below = Above {
+                    at: i,
+                    low: x.prefix + 1,
+                    key: x.key,
+                    right: false,
+                };
+                let more = walk(image, marks, rest - 1, x.left, &below)?;
+                below.right = true;
+                return walk(image, marks, more, x.right, &below);
             }
-            lost()
+            None
         }
         Visited::Leaf(x) => {
-            if in_order(low, key, right, rest, x) {
-                return leaf_walk(img, marks, n, rest - 1, i, x);
+            if above.in_order(rest, x) {
+                return leaf_walk(image.bytes, marks, image.n, rest - 1, i, x);
             }
-            lost()
+            None
         }
-        Visited::Damaged => lost(),
+        Visited::Damaged => None,
     }
 }
 
 // The root keeps its rule, and the tree reaches as many nodes as node size says; an empty map has none.
+#[tactic(auto, unfolding(crate::specs::Check::tree_ok, crate::specs::Check::root_walk))]
 pub fn tree_ok(img: &[u8], marks: &mut [u8], n: u32, h: Header) -> bool
     requires { Room h (length (words img.now)) }
     ensures { result ≡ tree_ok n h (words img.now) (words marks.old) }
@@ -113,18 +111,13 @@ pub fn tree_ok(img: &[u8], marks: &mut [u8], n: u32, h: Header) -> bool
         return false;
     }
     let root = h.root;
-    let none = Key { high: 0, low: 0 };
-    let w = walk(
-        img,
-        marks,
-        n,
-        h,
-        h.nodes.size,
-        root,
-        NodeIndex(0),
-        0,
-        none,
-        false,
-    );
-    w.passed & (w.rest == 0)
+    let none = Above {
+        at: NodeIndex(0),
+        low: 0,
+        key: Key { high: 0, low: 0 },
+        right: false,
+    };
+    let image = Image { bytes: img, n, h };
+    let left = walk(&image, marks, h.nodes.size, root, &none);
+    left == Some(0)
 }

@@ -28,8 +28,8 @@ use Rattle.inspection.specs.Outcome.{Leaves, one_outcome}
 use Rattle.inspection.specs.Room.{opened_whole}
 use Rattle.descent.specs.declared.Stop.{Stop}
 use Rattle.descent.specs.declared.Stop.TheVariants as stop
-use Rattle.descent.specs.declared.Turn.TheVariants.{Down, Halt}
-use Rattle.descent.specs.Descent.{is_inner, child_of, bits_turn, turn_at, follow, descend, no_node, from_root, leaf_of}
+use Rattle.std.specs.declared.ops.ControlFlow.TheVariants.{Break}
+use Rattle.descent.specs.Descent.{down, is_inner, child_of, bits_turn, turn_at, follow, descend, no_node, from_root, leaf_of}
 use Rattle.remove.specs.declared.Plan.{Plan}
 use Rattle.remove.specs.declared.Plan.TheVariants.{Lone, Cut}
 use Rattle.remove.specs.Plan.{sibling_of, sibling_ok, cut_plan, leaf_plan, stop_plan, reached_plan}
@@ -72,7 +72,7 @@ module _ (h : Header) (ws : List ℕ) (key : Key) where
       go : (a b : Bool) → parts (descend (bits_turn key) fuel h ws (child_of key (node_of ws i.0)) i ((node_of ws i.0).prefix + 1)) ≡ false
           → parts
           (follow (λ c next. descend (bits_turn key) fuel h ws c i next)
-          (cond a (cond b (Down (child_of key (node_of ws i.0)) ((node_of ws i.0).prefix + 1)) (Halt (stop.Leaf i (node_of ws i.0)))) (Halt stop.Damaged)))
+          (cond a (cond b (down (child_of key (node_of ws i.0)) ((node_of ws i.0).prefix + 1)) (Break (stop.Leaf i (node_of ws i.0)))) (Break stop.Damaged)))
           ≡ false
       go true true e = e
       go true false e = refl

@@ -3,4 +3,4 @@ use Rattle.std.proofs.Common.{◌-◌}
 use Rattle.full_check.proofs.walk.+walk.Given as goal
 
 abbrev pub decreases-walk : goal.decreases-walk
-decreases-walk l = 129 - l.low
+decreases-walk l = 129 - l.above.now.low

@@ -1,0 +1,2 @@
+-- Proofs of `full_check` that are no function's own.
+pub mod Rules
