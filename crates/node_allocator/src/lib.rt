@@ -19,7 +19,7 @@ pub enum Arena {
     Values { nodes: u32, values: u32 },
 }
 
-// The registers of a record, by the names that they have in a tree node. A value record uses register 0 alone, for the chain.
+// The registers of a record in their order, by the names that they have in a tree node. A value record uses register 0 alone, for the chain.
 #[derive(Clone, Copy)]
 pub enum Register {
     Left,
@@ -103,6 +103,7 @@ pub fn width(a: Arena) -> usize
     }
 }
 
+// The place of a register in its record.
 fn place_of(f: Register) -> usize
     ensures { (result ≡ register_of f) × (result < 4) }
 {
@@ -113,7 +114,7 @@ fn place_of(f: Register) -> usize
 pub fn is_inside(a: Arena, i: u32) -> bool
     ensures { result ≡ inside a i }
 {
-    (1 <= i) & (i <= capacity(a))
+    (1..=capacity(a)).contains(&i)
 }
 
 // ---- reading
@@ -166,7 +167,7 @@ pub fn never_used(img: &[u8], a: Arena, i: u32) -> bool
 pub fn link_ok(bump: u32, i: u32, next: u32) -> bool
     ensures { result ≡ link_ok bump i next }
 {
-    (1 <= next) & (next <= bump) & (next != i)
+    (1..=bump).contains(&next) & (next != i)
 }
 
 // ---- registers
