@@ -62,7 +62,7 @@ fn run(
     ensures text { IfOk result (λ at. Written out.old out.new 0 at (input_text 256 512 (start_image 256 512 (replicate (length (image_of img.old)) 0)) text.now)) }
 {
     words::clear(img);
-    start(img, 256, 512);
+    let _ = start(img, 256, 512);
     feed(text, size, img, buf, out)
 }
 
