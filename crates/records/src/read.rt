@@ -117,20 +117,22 @@ pub fn value_record(img: &[u8], n: u32, j: ValueIndex) -> ValueRecord
     value_record_past(img, b)
 }
 
-// The same where a part of it may lie past the end: each word is tested by itself, which a record that lies inside is spared.
+// The same where a part of it may lie past the end: each word is tested by itself, which a record that lies inside is spared. The value is read
+// first: read last, it costs a remove some moves more.
 #[tactic(auto, unfolding(crate::specs::Records::record_from))]
 fn value_record_past(img: &[u8], at: usize) -> ValueRecord
     requires { at < 1099511627776 }
     ensures { result ≡ record_from (words img.now) at }
 {
+    let value = Value {
+        first: words::wide(img, at + 4),
+        second: words::wide(img, at + 6),
+    };
     ValueRecord {
         register0: words::word(img, at),
         register1: words::word(img, at + 1),
         register2: words::word(img, at + 2),
         register3: words::word(img, at + 3),
-        value: Value {
-            first: words::wide(img, at + 4),
-            second: words::wide(img, at + 6),
-        },
+        value,
     }
 }
