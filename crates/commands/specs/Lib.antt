@@ -3,6 +3,7 @@ pub mod Answers
 pub mod Session
 pub mod Examples
 pub mod Whole
+pub mod Moved
 pub mod Pieces
 pub mod Once
 pub mod Feeding
