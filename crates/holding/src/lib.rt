@@ -1,5 +1,5 @@
-// A listing that holds the image it lists: thin functions over a struct of the lent image, the numbers M and N, and the position.
-// The work is done by `listing::step`, on the image and the position; each function here takes the struct apart and calls it.
+// A listing that holds the image it lists: a struct of the lent image, the numbers M and N, and the position, with thin methods.
+// The work is done by `listing::step`, on the image and the position; each method takes the struct apart and calls it.
 #![tactic(auto)]
 
 ghost use Rattle.std.specs.Prelude.{◌≡◌, true, false};
@@ -20,54 +20,43 @@ pub struct Listing<'a> {
     pub position: Position,
 }
 
-// The position that a listing begins at.
-fn start(image: &[u8], m: u32, n: u32) -> Position
-    ensures { result ≡ (made_of m n (image_of image.now)).position }
-{
-    let made = step::list(image, m, n);
-    made.position
-}
-
-// A listing of an image, before its first entry and behind its last. A refused image is held all the same, and refused at each step.
-pub fn list<'a>(image: &'a [u8], m: u32, n: u32) -> Listing<'a>
-    ensures { result ≡ begun image.entry m n }
-{
-    let position = start(image, m, n);
-    Listing {
-        image,
-        m,
-        n,
-        position,
+impl<'a> Listing<'a> {
+    // A listing of an image, before its first entry and behind its last. A refused image is held all the same, and refused at each step.
+    pub fn list(image: &'a [u8], m: u32, n: u32) -> Listing<'a>
+        ensures { result ≡ begun image.entry m n }
+    {
+        let position = step::list(image, m, n).position;
+        Listing {
+            image,
+            m,
+            n,
+            position,
+        }
     }
-}
 
-// The next entry from the front. The position that is held moves on.
-pub fn next<'s, 'a>(l: &'s mut Listing<'a>) -> Result<(Key, Value), Refusal>
-    ensures { (result ≡ (held_step false l.old).entry) × (l.new ≡ moved_on false l.old) }
-{
-    let front = step::next(l.image, l.m, l.n, l.position);
-    l.position = front.position;
-    front.entry
-}
+    // The next entry from the front. The position that is held moves on.
+    pub fn next(&mut self) -> Result<(Key, Value), Refusal>
+        ensures { (result ≡ (held_step false self.old).entry) × (self.new ≡ moved_on false self.old) }
+    {
+        let front = step::next(self.image, self.m, self.n, self.position);
+        self.position = front.position;
+        front.entry
+    }
 
-// The next entry from the back.
-pub fn next_back<'s, 'a>(l: &'s mut Listing<'a>) -> Result<(Key, Value), Refusal>
-    ensures { (result ≡ (held_step true l.old).entry) × (l.new ≡ moved_on true l.old) }
-{
-    let back = step::next_back(l.image, l.m, l.n, l.position);
-    l.position = back.position;
-    back.entry
-}
+    // The next entry from the back.
+    pub fn next_back(&mut self) -> Result<(Key, Value), Refusal>
+        ensures { (result ≡ (held_step true self.old).entry) × (self.new ≡ moved_on true self.old) }
+    {
+        let back = step::next_back(self.image, self.m, self.n, self.position);
+        self.position = back.position;
+        back.entry
+    }
 
-// The same image, listed from another position, as one that was kept from an earlier step.
-pub fn moved<'a>(l: Listing<'a>, position: Position) -> Listing<'a>
-    ensures { result ≡ placed l.entry position }
-{
-    Listing {
-        image: l.image,
-        m: l.m,
-        n: l.n,
-        position,
+    // The same image, listed from another position, as one that was kept from an earlier step.
+    pub fn moved(self, position: Position) -> Listing<'a>
+        ensures { result ≡ placed self.entry position }
+    {
+        Listing { position, ..self }
     }
 }
 
@@ -82,9 +71,9 @@ pub struct Ends {
 pub fn first_and_last(image: &[u8], m: u32, n: u32) -> Ends
     ensures { result ≡ both_of (begun image.entry m n) }
 {
-    let mut l = list(image, m, n);
-    let first = next(&mut l);
-    let last = next_back(&mut l);
+    let mut l = Listing::list(image, m, n);
+    let first = l.next();
+    let last = l.next_back();
     Ends { first, last }
 }
 
