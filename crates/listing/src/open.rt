@@ -3,7 +3,7 @@ ghost use Rattle.std.specs.Prelude.{◌≡◌, ◌+◌, ◌-◌, ◌*◌, ◌≤
 ghost use Rattle.words.specs.Words.{words};
 ghost use Rattle.inspection.specs.Room.{Room};
 ghost use Rattle.listing.specs.Step.{open_turn};
-ghost use Rattle.listing.specs.Ends.{stuck, live_given, given_of};
+ghost use Rattle.listing.specs.Ends.{live_given, given_of};
 
 use crate::{Given, Opens};
 use inspection::Visited;
@@ -41,35 +41,20 @@ pub fn open_turn(
     }
 }
 
-// Damage: the stack does not move.
-fn stopped(last: ValueIndex) -> Given
-    ensures { result ≡ stuck last }
-{
-    Given {
-        moves: false,
-        ended: false,
-        last,
-        entry: Err(Refusal::Damaged),
-    }
-}
-
 // A leaf's entry, by its value record.
 #[tactic(auto, unfolding(crate::specs::Ends::live_given))]
-fn live_given(x: Node, last: ValueIndex, live: Option<Value>) -> Given
-    ensures { result ≡ live_given x last live }
+fn live_given(x: Node, live: Option<Value>) -> Option<Given>
+    ensures { result ≡ live_given x live }
 {
-    match live {
-        Some(v) => Given {
-            moves: true,
-            ended: false,
-            last: x.value,
-            entry: Ok((x.key, v)),
-        },
-        None => stopped(last),
-    }
+    let v = live?;
+    Some(Given {
+        ended: false,
+        last: x.value,
+        entry: Ok((x.key, v)),
+    })
 }
 
-// What the leaf comes to: the ends meet, or its value record is tested and its entry given.
+// What the leaf comes to: the ends meet, or its value record is tested and its entry given; nothing at damage.
 pub fn given(
     img: &[u8],
     n: u32,
@@ -77,22 +62,21 @@ pub fn given(
     leaf: NodeIndex,
     last: ValueIndex,
     other: ValueIndex,
-) -> Given
+) -> Option<Given>
     ensures { result ≡ given_of n (words img.now) came leaf last other }
 {
     match came {
         Visited::Leaf(x) => {
             if x.value.0 == other.0 {
-                return Given {
-                    moves: true,
+                return Some(Given {
                     ended: true,
                     last,
                     entry: Err(Refusal::Absent),
-                };
+                });
             }
-            live_given(x, last, live_value(img, n, leaf, x.value))
+            live_given(x, live_value(img, n, leaf, x.value))
         }
-        Visited::Inner(_) => stopped(last),
-        Visited::Damaged => stopped(last),
+        Visited::Inner(_) => None,
+        Visited::Damaged => None,
     }
 }
