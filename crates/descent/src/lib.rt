@@ -3,7 +3,7 @@
 // each descent is a loop left by break with the node and the reason it stopped.
 #![tactic(auto)]
 
-ghost use Rattle.std.specs.Prelude.{◌≡◌, ◌+◌, ◌*◌, ◌<◌, ◌≤◌, length};
+ghost use Rattle.std.specs.Prelude.{◌≡◌};
 ghost use Rattle.words.specs.Words.{words};
 ghost use Rattle.records.specs.declared.Node.{Node};
 ghost use Rattle.records.specs.declared.NodeIndex.{NodeIndex};

@@ -1,5 +1,5 @@
 // The free chains, from each arena's head to its bump, and the records that were never used.
-ghost use Rattle.std.specs.Prelude.{◌≡◌, ◌+◌, ◌-◌, ◌*◌, ◌≤◌, ◌<◌, length};
+ghost use Rattle.std.specs.Prelude.{◌≡◌, ◌+◌, ◌-◌, ◌*◌, ◌≤◌, ◌<◌};
 ghost use Rattle.words.specs.Words.{words};
 ghost use Rattle.words.specs.Zeros.{zeros_at};
 ghost use Rattle.node_allocator.specs.Layout.{record_at, capacity_of, width_of};

@@ -1,6 +1,6 @@
 // The walk over the tree: from the root to the left child, then to the right one, each node tested before it is relied on. The value
 // records that leaves name are marked, so that one named twice is found.
-ghost use Rattle.std.specs.Prelude.{◌≡◌, ◌&&◌, ◌+◌, ◌≤◌, ltb, length};
+ghost use Rattle.std.specs.Prelude.{◌≡◌, ◌&&◌, ◌≤◌, ltb};
 ghost use Rattle.words.specs.Words.{words};
 ghost use Rattle.full_check.specs.Walk.{side_ok, leaf_walk};
 ghost use Rattle.full_check.specs.Walked.{walked, WalksTo};

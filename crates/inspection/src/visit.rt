@@ -1,5 +1,5 @@
 // A visited node: the one test of it, what both kinds share and then its own; its children; and the value record of a leaf.
-ghost use Rattle.std.specs.Prelude.{◌≡◌, ◌+◌, ◌*◌, ◌≤◌, length};
+ghost use Rattle.std.specs.Prelude.{◌≡◌};
 ghost use Rattle.words.specs.Words.{words};
 ghost use Rattle.inspection.specs.Tests.{node_ok, root_ok, kids_ok};
 ghost use Rattle.inspection.specs.Visit.{of_kind, by_kind, visit_of, first_of, live_of};

@@ -1,5 +1,5 @@
 // Opening one node, and what the leaf comes to. The loop that opens nodes until a leaf comes is in step.rt. No node is read twice.
-ghost use Rattle.std.specs.Prelude.{◌≡◌, ◌+◌, ◌-◌, ◌*◌, ◌≤◌, ◌<◌, length};
+ghost use Rattle.std.specs.Prelude.{◌≡◌, ◌+◌, ◌-◌, ◌*◌, ◌≤◌, ◌<◌};
 ghost use Rattle.words.specs.Words.{words};
 ghost use Rattle.listing.specs.Step.{open_turn};
 ghost use Rattle.listing.specs.Ends.{stuck, live_given, given_of};

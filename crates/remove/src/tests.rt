@@ -1,5 +1,5 @@
 // What remove tests, all of it on the image as it was before the call. Nothing here writes, and no record is read twice.
-ghost use Rattle.std.specs.Prelude.{◌≡◌, length};
+ghost use Rattle.std.specs.Prelude.{◌≡◌};
 ghost use Rattle.words.specs.Words.{words};
 ghost use Rattle.records.specs.Layout.{image_of};
 ghost use Rattle.inspection.specs.Visit.{live_of};
