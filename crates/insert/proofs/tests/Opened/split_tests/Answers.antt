@@ -1,15 +1,14 @@
--- `insert::tests::split_tests` meets its contract. Assumes nothing.
+-- `insert::tests::Opened::split_tests` meets its contract. Assumes nothing.
 use mathlib.Core.Path.{sym, ◌∙◌}
 use native.Mathlib.Omega.{arith}
 use Rattle.insert.specs.Plan.{leaf_tests, split_tests}
 use Rattle.insert.specs.Ready.{next_some, behind_some, behind_none}
-use borrow.Author.Rules.{rules}
-use Rattle.insert.proofs.tests.split_tests.Goals as goal
+use Rattle.insert.proofs.tests.Opened.split_tests.Goals as goal
 
 pub taken_node-requires : goal.taken_node-requires
 taken_node-requires c =
     let some = behind_some _ _ _ _ (sym c.behind_head.ensures ∙ c.in-Some.is) in
-    (omega (arith, some.1, next_some _ _ _ _ c.requires.most some.0), search rules)
+    omega (arith, some.1, next_some _ _ _ _ c.args.self.now.ready.most some.0)
 
 pub returns-in-Some : goal.returns-in-Some
 unfolding split_tests leaf_tests

@@ -1,7 +1,7 @@
--- `insert::tests::taken_node` meets its contract. Assumes nothing.
+-- `insert::tests::Opened::taken_node` meets its contract. Assumes nothing.
 use borrow.Author.Tests.{lt-ltb, le-ltb}
 use Rattle.insert.specs.Plan.{taken_node}
-use Rattle.insert.proofs.tests.taken_node.Goals as goal
+use Rattle.insert.proofs.tests.Opened.taken_node.Goals as goal
 
 pub returns-then-i-h : goal.returns-then-i-h
 unfolding taken_node

@@ -1,7 +1,7 @@
--- `visit::kids_ok` meets its contract. Assumes nothing.
+-- `Image::kids_ok` meets its contract. Assumes nothing.
 use borrow.Author.Tests.{eq-eqb, ne_eqb, lt-ltb, le-ltb}
 use Rattle.inspection.specs.Tests.{kids_ok}
-use Rattle.inspection.proofs.visit.kids_ok.Goals as goal
+use Rattle.inspection.proofs.Image.kids_ok.Goals as goal
 
 pub returns-then-x-lt128 : goal.returns-then-x-lt128
 unfolding kids_ok
