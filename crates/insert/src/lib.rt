@@ -14,7 +14,8 @@ ghost use Rattle.insert.specs.Steps.{insert_of, insert_image};
 use crate::steps::{first, split};
 use crate::tests::plan;
 use keys::Key;
-use records::write::{live_record, set_value};
+use records::arenas::Arenas;
+use records::write::live_record;
 use records::{Header, Node, NodeIndex, Refusal, Value, ValueIndex};
 
 // What insert is going to do, found out before any write: a first leaf; the value of an equal leaf replaced; or a node
@@ -31,17 +32,19 @@ pub fn insert(img: &mut [u8], m: u32, n: u32, key: Key, v: Value) -> Result<Node
     ensures answer { result ≡ insert_of m n (image_of img.old) key }
     ensures image { Leaves img.old img.new (answer_number (insert_of m n (image_of img.old) key)) (insert_image m n (image_of img.old) key v) }
 {
-    match plan(img, m, n, key)? {
+    let plan = plan(img, m, n, key)?;
+    let mut img = Arenas { bytes: img, m, n };
+    match plan {
         Plan::Split(h, i, x, shared) => {
-            split(img, m, n, h, i, x, shared, key, v);
+            split(&mut img, h, i, x, shared, key, v);
             Ok(NodeIndex(h.nodes.head))
         }
         Plan::Replace(i, j) => {
-            set_value(img, m, n, j, live_record(i, v));
+            img.set_value(j, live_record(i, v));
             Ok(i)
         }
         Plan::First(h) => {
-            first(img, m, n, h, key, v);
+            first(&mut img, h, key, v);
             Ok(NodeIndex(h.nodes.head))
         }
     }

@@ -14,6 +14,7 @@ ghost use Rattle.remove.specs.Steps.{remove_of, removed_image};
 use crate::steps::{remove_cut, remove_lone};
 use crate::tests::image_plan;
 use keys::Key;
+use records::arenas::Arenas;
 use records::{Header, Node, NodeIndex, Refusal, Value};
 
 // What remove is going to do, found out before any write: the header, the leaf's index and record, and the value that
@@ -29,13 +30,15 @@ pub fn remove(img: &mut [u8], m: u32, n: u32, key: Key) -> Result<Value, Refusal
     ensures answer { result ≡ remove_of m n (image_of img.old) key }
     ensures image { Leaves img.old img.new (answer_number (remove_of m n (image_of img.old) key)) (removed_image m n (image_of img.old) key) }
 {
-    match image_plan(img, m, n, key)? {
+    let plan = image_plan(img, m, n, key)?;
+    let mut img = Arenas { bytes: img, m, n };
+    match plan {
         Plan::Cut(h, i, x, y, s, z, v) => {
-            remove_cut(img, m, n, h, i, x, y, s, z);
+            remove_cut(&mut img, h, i, x, y, s, z);
             Ok(v)
         }
         Plan::Lone(h, i, x, v) => {
-            remove_lone(img, m, n, h, i, x);
+            remove_lone(&mut img, h, i, x);
             Ok(v)
         }
     }
