@@ -1,9 +1,9 @@
 // The two arenas of an image, lent to be written: the one way in which insert and remove store. That the buffer has room for both is a part of
-// the type, so that no store asks for it.
+// the type, so that no store asks for it. Nodes and value records are taken and freed under names of their own, since their indices are two
+// types; both are one function of the arena's.
 ghost use Rattle.std.specs.Prelude.{◌+◌, ◌*◌, ◌≤◌, length};
 
-use crate::write;
-use crate::{Node, NodeIndex, ValueIndex, ValueRecord};
+use crate::{Node, NodeIndex, ValueIndex, ValueRecord, write};
 use node_allocator::{Arena, Counts, Register};
 
 // A buffer that holds M value records behind N nodes.
