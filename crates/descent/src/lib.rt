@@ -9,7 +9,7 @@ ghost use Rattle.records.specs.declared.Node.{Node};
 ghost use Rattle.records.specs.declared.NodeIndex.{NodeIndex};
 ghost use Rattle.descent.specs.Bits.{all_bits, bits_turns};
 ghost use Rattle.descent.specs.Found.{stop_leaf};
-ghost use Rattle.descent.specs.Descent.{Turn, child_of, lookup_turn, bits_turn, turn_at, from_root, find_of, leaf_of, end_of};
+ghost use Rattle.descent.specs.Descent.{Turn, lookup_turn, bits_turn, turn_at, from_root, find_of, leaf_of, end_of};
 ghost use Rattle.descent.specs.Laws.{Turns, lookup_turns};
 
 use inspection::{Image, Visited};
@@ -134,17 +134,6 @@ pub fn find(image: &Image, key: Key) -> Stop
 
 // ---- by a key's bits alone
 
-// The child on the side of the key's bit at the node's prefix length.
-#[tactic(auto, unfolding(crate::specs::Descent::child_of))]
-fn child(key: Key, x: Node) -> NodeIndex
-    ensures { result ≡ child_of key x }
-{
-    if bit(key, x.prefix) {
-        return x.right;
-    }
-    x.left
-}
-
 #[derive(Clone, Copy)]
 struct ByBits(Key);
 
@@ -154,11 +143,11 @@ impl Descend for ByBits {
     ghost turns = { λ by. bits_turns by.0 };
 
     // Damaged, down, or the leaf.
-    #[tactic(auto, using(crate::proofs::Turns::bits_turning))]
+    #[tactic(auto, using(crate::proofs::Turns::bits_turning), unfolding(crate::specs::Descent::child_of))]
     fn turn(self, image: &Image, i: NodeIndex, above: NodeIndex, low: u64) -> Turn {
         let key = self.0;
         match image.visit(i, above, low) {
-            Visited::Inner(x) => Continue((child(key, x), x.prefix + 1)),
+            Visited::Inner(x) => Continue((x.child(bit(key, x.prefix)), x.prefix + 1)),
             Visited::Leaf(x) => Break(Stop::Leaf(i, x)),
             Visited::Damaged => Break(Stop::Damaged),
         }

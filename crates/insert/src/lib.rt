@@ -9,7 +9,7 @@ ghost use Rattle.std.specs.Prelude.{◌≡◌, Ok};
 ghost use Rattle.words.specs.Words.{words};
 ghost use Rattle.records.specs.Layout.{image_of};
 ghost use Rattle.records.specs.Numbers.{answer_number};
-ghost use Rattle.records.specs.Stored.{Stored};
+ghost use Rattle.records.specs.Rewritten.{Rewritten};
 ghost use Rattle.inspection.specs.Outcome.{Leaves};
 ghost use Rattle.insert.specs.Steps.{plan_place, plan_image, insert_of, insert_image};
 
@@ -33,7 +33,7 @@ pub enum Plan {
 #[tactic(auto, unfolding(crate::specs::Steps::plan_place, crate::specs::Steps::plan_image))]
 fn carry_out(img: &mut Arenas, plan: Plan, key: Key, v: Value) -> NodeIndex
     ensures leaf { Ok result ≡ plan_place (Ok plan) }
-    ensures image { Stored img.old img.new (plan_image img.old.m img.old.n (words img.old.bytes.now) key v (Ok plan)) }
+    ensures image { Rewritten img.old img.new (plan_image img.old.m img.old.n (words img.old.bytes.now) key v (Ok plan)) }
 {
     match plan {
         Plan::Split(h, i, x, shared) => {

@@ -4,7 +4,7 @@ ghost use Rattle.words.specs.Words.{words};
 ghost use Rattle.node_allocator.specs.declared.Arena.TheVariants.{Nodes};
 ghost use Rattle.node_allocator.specs.Steps.{add_counts};
 ghost use Rattle.records.specs.Records.{leaf_node};
-ghost use Rattle.records.specs.Stored.{Stored};
+ghost use Rattle.records.specs.Rewritten.{Rewritten};
 ghost use Rattle.insert.specs.Steps.{leaf_taken, first_image, fork_node, split_image};
 
 use keys::{Key, bit};
@@ -19,7 +19,7 @@ use records::{Header, Node, NodeIndex, Value, ValueIndex};
 #[inline(always)]
 fn take_leaf(img: &mut Arenas, h: Header, v: Value) -> Counts
     ensures counts { result ≡ add_counts (Nodes img.old.n) (words img.old.bytes.now) h.nodes }
-    ensures image { Stored img.old img.new (leaf_taken img.old.m img.old.n (words img.old.bytes.now) h v) }
+    ensures image { Rewritten img.old img.new (leaf_taken img.old.m img.old.n (words img.old.bytes.now) h v) }
 {
     let leaf = NodeIndex(h.nodes.head);
     let after = img.add_node(h.nodes);
@@ -44,7 +44,7 @@ fn leaf_node(parent: NodeIndex, key: Key, value: ValueIndex) -> Node
 // Into the empty map: the new leaf is the root.
 #[tactic(auto, unfolding(crate::specs::Steps::first_image))]
 pub fn first(img: &mut Arenas, h: Header, key: Key, v: Value)
-    ensures { Stored img.old img.new (first_image img.old.m img.old.n (words img.old.bytes.now) h key v) }
+    ensures { Rewritten img.old img.new (first_image img.old.m img.old.n (words img.old.bytes.now) h key v) }
 {
     let leaf = NodeIndex(h.nodes.head);
     let x = leaf_node(NodeIndex(0), key, ValueIndex(h.values.head));
@@ -78,7 +78,7 @@ fn fork_node(key: Key, shared: u64, leaf: NodeIndex, copy: NodeIndex, x: Node) -
 // above both. What the plan found is given one by one: theorems of `accepted_insert` speak of the plan in this form.
 #[tactic(auto, unfolding(crate::specs::Steps::split_image, crate::specs::Steps::both_taken, crate::specs::Steps::copy_index, crate::specs::Steps::adopted, crate::specs::Steps::forked))]
 pub fn split(img: &mut Arenas, h: Header, i: NodeIndex, x: Node, shared: u64, key: Key, v: Value)
-    ensures { Stored img.old img.new (split_image img.old.m img.old.n (words img.old.bytes.now) h i.0 x shared key v) }
+    ensures { Rewritten img.old img.new (split_image img.old.m img.old.n (words img.old.bytes.now) h i.0 x shared key v) }
 {
     let leaf = NodeIndex(h.nodes.head);
     let cell = ValueIndex(h.values.head);

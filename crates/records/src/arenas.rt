@@ -22,7 +22,7 @@ impl Arenas<'_> {
     ghost use Rattle.node_allocator.specs.declared.Register.TheVariants.{Parent};
     ghost use Rattle.node_allocator.specs.Steps.{set_register, add_counts, add_image, remove_counts, remove_image};
     ghost use Rattle.records.specs.Writes.{set_node, set_value};
-    ghost use Rattle.records.specs.Stored.{Stored};
+    ghost use Rattle.records.specs.Rewritten.{Rewritten};
 
     fn nodes(&self) -> Arena
         ensures { result ≡ Nodes self.now.n }
@@ -41,27 +41,27 @@ impl Arenas<'_> {
 
     // Node `i` holds this data; its padding stays.
     pub fn set_node(&mut self, i: NodeIndex, x: Node)
-        ensures { Stored self.old self.new (set_node self.old.n (words self.old.bytes.now) i.0 x) }
+        ensures { Rewritten self.old self.new (set_node self.old.n (words self.old.bytes.now) i.0 x) }
     {
         write::set_node(self.bytes, self.n, i, x);
     }
 
     // Value record `j` is this one.
     pub fn set_value(&mut self, j: ValueIndex, r: ValueRecord)
-        ensures { Stored self.old self.new (set_value self.old.m self.old.n (words self.old.bytes.now) j.0 r) }
+        ensures { Rewritten self.old self.new (set_value self.old.m self.old.n (words self.old.bytes.now) j.0 r) }
     {
         write::set_value(self.bytes, self.m, self.n, j, r);
     }
 
     pub fn set_root(&mut self, i: NodeIndex)
-        ensures { Stored self.old self.new (set (words self.old.bytes.now) 2 i.0) }
+        ensures { Rewritten self.old self.new (set (words self.old.bytes.now) 2 i.0) }
     {
         write::set_root(self.bytes, i);
     }
 
     // Nodes `l` and `r`, where they are nodes, hang below node `i`.
     pub fn adopt(&mut self, i: NodeIndex, l: NodeIndex, r: NodeIndex)
-        ensures { Stored self.old self.new (set_register (Nodes self.old.n) (set_register (Nodes self.old.n) (words self.old.bytes.now) l.0 i.0 Parent) r.0 i.0 Parent) }
+        ensures { Rewritten self.old self.new (set_register (Nodes self.old.n) (set_register (Nodes self.old.n) (words self.old.bytes.now) l.0 i.0 Parent) r.0 i.0 Parent) }
     {
         let nodes = self.nodes();
         node_allocator::set_register(self.bytes, nodes, l.0, i.0, Register::Parent);
@@ -71,7 +71,7 @@ impl Arenas<'_> {
     // The nodes' head is taken. The nodes' header was `c`, and the answer is what it is now.
     pub fn add_node(&mut self, c: Counts) -> Counts
         ensures counts { result ≡ add_counts (Nodes self.old.n) (words self.old.bytes.now) c }
-        ensures image { Stored self.old self.new (add_image (Nodes self.old.n) (words self.old.bytes.now) c) }
+        ensures image { Rewritten self.old self.new (add_image (Nodes self.old.n) (words self.old.bytes.now) c) }
     {
         let nodes = self.nodes();
         node_allocator::add_node(self.bytes, nodes, c)
@@ -79,7 +79,7 @@ impl Arenas<'_> {
 
     // The values' head is taken. The values' header was `c`.
     pub fn add_value(&mut self, c: Counts)
-        ensures { Stored self.old self.new (add_image (Values self.old.n self.old.m) (words self.old.bytes.now) c) }
+        ensures { Rewritten self.old self.new (add_image (Values self.old.n self.old.m) (words self.old.bytes.now) c) }
     {
         let values = self.values();
         node_allocator::add_node(self.bytes, values, c);
@@ -88,7 +88,7 @@ impl Arenas<'_> {
     // Node `i` is freed. The nodes' header was `c`, and the answer is what it is now.
     pub fn remove_node(&mut self, i: NodeIndex, c: Counts) -> Counts
         ensures counts { result ≡ remove_counts (Nodes self.old.n) c i.0 }
-        ensures image { Stored self.old self.new (remove_image (Nodes self.old.n) (words self.old.bytes.now) i.0 c) }
+        ensures image { Rewritten self.old self.new (remove_image (Nodes self.old.n) (words self.old.bytes.now) i.0 c) }
     {
         let nodes = self.nodes();
         node_allocator::remove_node(self.bytes, nodes, i.0, c)
@@ -96,7 +96,7 @@ impl Arenas<'_> {
 
     // Value record `j` is freed. The values' header was `c`.
     pub fn remove_value(&mut self, j: ValueIndex, c: Counts)
-        ensures { Stored self.old self.new (remove_image (Values self.old.n self.old.m) (words self.old.bytes.now) j.0 c) }
+        ensures { Rewritten self.old self.new (remove_image (Values self.old.n self.old.m) (words self.old.bytes.now) j.0 c) }
     {
         let values = self.values();
         node_allocator::remove_node(self.bytes, values, j.0, c);

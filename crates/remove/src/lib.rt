@@ -9,7 +9,7 @@ ghost use Rattle.std.specs.Prelude.{◌≡◌, Ok};
 ghost use Rattle.words.specs.Words.{words};
 ghost use Rattle.records.specs.Layout.{image_of};
 ghost use Rattle.records.specs.Numbers.{answer_number};
-ghost use Rattle.records.specs.Stored.{Stored};
+ghost use Rattle.records.specs.Rewritten.{Rewritten};
 ghost use Rattle.inspection.specs.Outcome.{Leaves};
 ghost use Rattle.remove.specs.Steps.{value_gone, plan_image, remove_of, removed_image};
 
@@ -31,7 +31,7 @@ pub enum Plan {
 #[tactic(auto, unfolding(crate::specs::Steps::value_gone, crate::specs::Steps::plan_image))]
 fn carry_out(img: &mut Arenas, plan: Plan) -> Value
     ensures value { Ok result ≡ value_gone (Ok plan) }
-    ensures image { Stored img.old img.new (plan_image img.old.m img.old.n (words img.old.bytes.now) (Ok plan)) }
+    ensures image { Rewritten img.old img.new (plan_image img.old.m img.old.n (words img.old.bytes.now) (Ok plan)) }
 {
     match plan {
         Plan::Cut(h, i, x, y, s, z, v) => {

@@ -5,7 +5,7 @@ ghost use Rattle.words.specs.Words.{words};
 ghost use Rattle.node_allocator.specs.declared.Arena.TheVariants.{Nodes};
 ghost use Rattle.node_allocator.specs.Steps.{remove_counts};
 ghost use Rattle.records.specs.Records.{bare_node};
-ghost use Rattle.records.specs.Stored.{Stored};
+ghost use Rattle.records.specs.Rewritten.{Rewritten};
 ghost use Rattle.remove.specs.Steps.{leaf_freed, lone_image, cut_image};
 
 use node_allocator::Counts;
@@ -32,7 +32,7 @@ fn bare(parent: NodeIndex, x: Node) -> Node
 #[inline]
 fn free_leaf(img: &mut Arenas, h: Header, i: NodeIndex, x: Node) -> Counts
     ensures counts { result ≡ remove_counts (Nodes img.old.n) h.nodes i.0 }
-    ensures image { Stored img.old img.new (leaf_freed img.old.m img.old.n (words img.old.bytes.now) h i.0 x) }
+    ensures image { Rewritten img.old img.new (leaf_freed img.old.m img.old.n (words img.old.bytes.now) h i.0 x) }
 {
     img.remove_value(x.value, h.values);
     img.set_node(i, bare(NodeIndex(0), x));
@@ -42,7 +42,7 @@ fn free_leaf(img: &mut Arenas, h: Header, i: NodeIndex, x: Node) -> Counts
 // A leaf that is the root: the root is none, and the leaf is freed.
 #[tactic(auto, unfolding(crate::specs::Steps::lone_image))]
 pub fn remove_lone(img: &mut Arenas, h: Header, i: NodeIndex, x: Node)
-    ensures { Stored img.old img.new (lone_image img.old.m img.old.n (words img.old.bytes.now) h i.0 x) }
+    ensures { Rewritten img.old img.new (lone_image img.old.m img.old.n (words img.old.bytes.now) h i.0 x) }
 {
     img.set_root(NodeIndex(0));
     free_leaf(img, h, i, x);
@@ -61,7 +61,7 @@ pub fn remove_cut(
     s: NodeIndex,
     z: Node,
 )
-    ensures { Stored img.old img.new (cut_image img.old.m img.old.n (words img.old.bytes.now) h i.0 x y s.0 z) }
+    ensures { Rewritten img.old img.new (cut_image img.old.m img.old.n (words img.old.bytes.now) h i.0 x y s.0 z) }
 {
     let c = free_leaf(img, h, i, x);
     img.set_node(x.parent, with_parent(y.parent, z));

@@ -4,7 +4,7 @@ ghost use Rattle.words.specs.Words.{words};
 ghost use Rattle.records.specs.Layout.{image_of};
 ghost use Rattle.inspection.specs.Visit.{live_of};
 ghost use Rattle.inspection.specs.Opening.{open_of};
-ghost use Rattle.remove.specs.Plan.{sibling_of, cut_plan, leaf_plan, remove_plan};
+ghost use Rattle.remove.specs.Plan.{cut_plan, leaf_plan, remove_plan};
 ghost use Rattle.remove.specs.Steps.{opened_plan};
 
 use crate::Plan;
@@ -17,16 +17,6 @@ use keys::{Key, bit, same};
 use records::read::node_in;
 use records::{Node, NodeIndex, Refusal, Value};
 
-// The child of a node that the key does not turn to.
-fn sibling(key: Key, x: Node) -> NodeIndex
-    ensures { result ≡ sibling_of key x }
-{
-    if bit(key, x.prefix) {
-        return x.left;
-    }
-    x.right
-}
-
 // Leaf `i`, whose record is `x` and whose value is `v`, below a node: its sibling is tested, and the sibling's children.
 fn cut_plan(image: &Image, key: Key, i: NodeIndex, x: Node, v: Value) -> Result<Plan, Refusal>
     ensures { result ≡ cut_plan image.now.h (words image.now.bytes.now) key i x v }
@@ -36,7 +26,7 @@ fn cut_plan(image: &Image, key: Key, i: NodeIndex, x: Node, v: Value) -> Result<
     if is_used(h, p) {
         let y = node_in(image.bytes, p);
         if y.prefix < 128 {
-            let s = sibling(key, y);
+            let s = y.child(!bit(key, y.prefix)); // the child that the key does not turn to
             match image.visit(s, p, y.prefix + 1) {
                 Visited::Leaf(z) => return Ok(Plan::Cut(h, i, x, y, s, z, v)),
                 Visited::Inner(z) => {

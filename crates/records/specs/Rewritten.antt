@@ -3,7 +3,7 @@ use Rattle.std.specs.Prelude.{◌≡◌, List, ℕ}
 use Rattle.words.specs.Words.{words}
 use Rattle.records.specs.declared.arenas.Arenas.{Arenas}
 
-pub record Stored (before after : Arenas) (ws : List ℕ) : Type 0 where
+pub record Rewritten (before after : Arenas) (ws : List ℕ) : Type 0 where
   pub same : after.bytes.ghost_name ≡ before.bytes.ghost_name
   pub values : after.m ≡ before.m
   pub nodes : after.n ≡ before.n
