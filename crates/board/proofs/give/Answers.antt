@@ -28,8 +28,8 @@ unfolding answer_number got_value output_after
 returns-after-ne c = record {
   answer = simp (c.in-Err.is, c.number.ensures);
   output =
-    elim c.if-ne.branch [
-      | then-ne w ↦ w.out-is ∙ w.put_value-then-ne.ensures ∙ simp (c.in-Err.is, ← is_shape c.in-Err.r, not-true _ (sym c.ne.ensures ∙ w.if-ne.true))
-      | else-ne w ↦ w.out-is ∙ simp (c.in-Err.is, ← is_shape c.in-Err.r, not-false _ (sym c.ne.ensures ∙ w.if-ne.false))
-    ];
+      elim c.if-ne.branch [
+        | then-ne w ↦ w.out-is ∙ w.put_value-then-ne.ensures ∙ simp (c.in-Err.is, ← is_shape c.in-Err.r, not-true _ (sym c.ne.ensures ∙ w.if-ne.true))
+        | else-ne w ↦ w.out-is ∙ simp (c.in-Err.is, ← is_shape c.in-Err.r, not-false _ (sym c.ne.ensures ∙ w.if-ne.false))
+      ];
 }
