@@ -14,7 +14,7 @@ use Rattle.inspection.specs.Visit.{live_of}
 use Rattle.inspection.specs.Opening.{open_shaped, open_of}
 use Rattle.records.specs.Numbers.{answer_number, got_value, refusal_number}
 use Rattle.descent.specs.Descent.{lookup_turn, child_of, turn_at, descend, from_root}
-use Rattle.lookup.specs.Get.{live_target, stop_target, opened_target, target_of, target_got, get_of, leaf_target}
+use Rattle.lookup.specs.Get.{live_target, opened_target, target_of, target_got, get_of, leaf_target}
 use Rattle.full_check.specs.Walk.{side_ok, visit_ok, leaf_walk, joined, walk_of}
 use Rattle.full_check.specs.Chains.{chain_of, node_chain, value_chain, nodes_unused, values_unused}
 use Rattle.full_check.specs.Check.{root_walk, tree_ok, records_ok, opened_check, check_shape, check_of}

@@ -3,20 +3,18 @@
 // each descent is a loop left by break with the node and the reason it stopped.
 #![tactic(auto)]
 
-ghost use Rattle.std.specs.Prelude.{◌≡◌, ◌+◌, ◌*◌, ◌<◌, ◌≤◌, length};
+ghost use Rattle.std.specs.Prelude.{◌≡◌};
 ghost use Rattle.words.specs.Words.{words};
 ghost use Rattle.records.specs.declared.Node.{Node};
 ghost use Rattle.records.specs.declared.NodeIndex.{NodeIndex};
-ghost use Rattle.inspection.specs.Room.{Room};
 ghost use Rattle.descent.specs.Bits.{all_bits, bits_turns};
 ghost use Rattle.descent.specs.Found.{stop_leaf};
-ghost use Rattle.descent.specs.Descent.{Turn, child_of, lookup_turn, bits_turn, turn_at, from_root, find_of, leaf_of, end_of};
+ghost use Rattle.descent.specs.Descent.{Turn, lookup_turn, bits_turn, turn_at, from_root, find_of, leaf_of, end_of};
 ghost use Rattle.descent.specs.Laws.{Turns, lookup_turns};
 
-use inspection::Visited;
-use inspection::visit::{root_ok, visit};
+use inspection::{Image, Visited};
 use keys::{Key, Way, bit, goes, leading_equal};
-use records::{Header, Node, NodeIndex, Refusal};
+use records::{Node, NodeIndex, Refusal};
 use std::ops::ControlFlow::{self, Break, Continue};
 
 // Why a descent stopped, and where: at a leaf that fits; at a node where the key parts from the map, with the number of bits that they share; in an
@@ -53,30 +51,28 @@ trait Descend: Copy {
     ghost turn: { Self → NodeIndex → Node → Turn };
 
     // One node of the descent, reached from the node above.
-    fn turn(self, img: &[u8], h: Header, i: NodeIndex, above: NodeIndex, low: u64) -> Turn
-        requires { Room h (length (words img.now)) }
-        ensures { result ≡ turn_at (turn self) h (words img.now) i above low };
+    fn turn(self, image: &Image, i: NodeIndex, above: NodeIndex, low: u64) -> Turn
+        ensures { result ≡ turn_at (turn self) image.now.h (words image.now.bytes.now) i above low };
 
     ghost turns: { (by : Self) → Turns (turn by) };
 }
 
 // From the root, by the root's rule; in an empty map nothing is visited.
 #[tactic(auto, using(crate::proofs::Turns::steps), unfolding(crate::specs::Descent::from_root))]
-fn from_root<D: Descend>(img: &[u8], h: Header, by: D) -> Stop
-    requires { Room h (length (words img.now)) }
-    ensures { result ≡ from_root (D.turn by) h (words img.now) }
+fn from_root<D: Descend>(image: &Image, by: D) -> Stop
+    ensures { result ≡ from_root (D.turn by) image.now.h (words image.now.bytes.now) }
 {
-    if h.values.size == 0 {
+    if image.h.values.size == 0 {
         return Stop::Empty;
     }
-    if !root_ok(img, h) {
+    if !image.root_ok() {
         return Stop::Damaged;
     }
-    let mut at = h.root;
+    let mut at = image.h.root;
     let mut above = NodeIndex(0);
     let mut low: u64 = 0;
     loop {
-        match by.turn(img, h, at, above, low) {
+        match by.turn(image, at, above, low) {
             Continue((next, least)) => {
                 above = at;
                 at = next;
@@ -99,9 +95,9 @@ impl Descend for ByKey {
 
     // Damaged, parted, found, or down.
     #[tactic(auto, using(crate::proofs::Turns::lookup_turning))]
-    fn turn(self, img: &[u8], h: Header, i: NodeIndex, above: NodeIndex, low: u64) -> Turn {
+    fn turn(self, image: &Image, i: NodeIndex, above: NodeIndex, low: u64) -> Turn {
         let key = self.0;
-        match visit(img, h, i, above, low) {
+        match image.visit(i, above, low) {
             Visited::Inner(x) => {
                 let own = x.key;
                 match goes(key, own, x.prefix) {
@@ -130,25 +126,13 @@ impl Descend for ByKey {
 }
 
 // Where a key leads.
-pub fn find(img: &[u8], h: Header, key: Key) -> Stop
-    requires { Room h (length (words img.now)) }
-    ensures { result ≡ find_of h (words img.now) key }
+pub fn find(image: &Image, key: Key) -> Stop
+    ensures { result ≡ find_of image.now.h (words image.now.bytes.now) key }
 {
-    from_root(img, h, ByKey(key))
+    from_root(image, ByKey(key))
 }
 
 // ---- by a key's bits alone
-
-// The child on the side of the key's bit at the node's prefix length.
-#[tactic(auto, unfolding(crate::specs::Descent::child_of))]
-fn child(key: Key, x: Node) -> NodeIndex
-    ensures { result ≡ child_of key x }
-{
-    if bit(key, x.prefix) {
-        return x.right;
-    }
-    x.left
-}
 
 #[derive(Clone, Copy)]
 struct ByBits(Key);
@@ -159,11 +143,11 @@ impl Descend for ByBits {
     ghost turns = { λ by. bits_turns by.0 };
 
     // Damaged, down, or the leaf.
-    #[tactic(auto, using(crate::proofs::Turns::bits_turning))]
-    fn turn(self, img: &[u8], h: Header, i: NodeIndex, above: NodeIndex, low: u64) -> Turn {
+    #[tactic(auto, using(crate::proofs::Turns::bits_turning), unfolding(crate::specs::Descent::child_of))]
+    fn turn(self, image: &Image, i: NodeIndex, above: NodeIndex, low: u64) -> Turn {
         let key = self.0;
-        match visit(img, h, i, above, low) {
-            Visited::Inner(x) => Continue((child(key, x), x.prefix + 1)),
+        match image.visit(i, above, low) {
+            Visited::Inner(x) => Continue((x.child(bit(key, x.prefix)), x.prefix + 1)),
             Visited::Leaf(x) => Break(Stop::Leaf(i, x)),
             Visited::Damaged => Break(Stop::Damaged),
         }
@@ -171,11 +155,10 @@ impl Descend for ByBits {
 }
 
 // The leaf that a key's bits lead to. Whether it is the key's is the caller's to ask.
-pub fn reach(img: &[u8], h: Header, key: Key) -> Stop
-    requires { Room h (length (words img.now)) }
-    ensures { result ≡ leaf_of h (words img.now) key }
+pub fn reach(image: &Image, key: Key) -> Stop
+    ensures { result ≡ leaf_of image.now.h (words image.now.bytes.now) key }
 {
-    from_root(img, h, ByBits(key))
+    from_root(image, ByBits(key))
 }
 
 // The key whose bits are all 0, or all 1.
@@ -193,9 +176,8 @@ fn all_bits(right: bool) -> Key
 
 // The first leaf from the left, or from the right: the Rust's `find_min` and `find_max`.
 #[tactic(auto, using(crate::specs::Bits::end_bits))]
-pub fn find_end(img: &[u8], h: Header, right: bool) -> Stop
-    requires { Room h (length (words img.now)) }
-    ensures { result ≡ end_of h (words img.now) right }
+pub fn find_end(image: &Image, right: bool) -> Stop
+    ensures { result ≡ end_of image.now.h (words image.now.bytes.now) right }
 {
-    reach(img, h, all_bits(right))
+    reach(image, all_bits(right))
 }

@@ -1,11 +1,11 @@
 // The free chains, from each arena's head to its bump, and the records that were never used.
-ghost use Rattle.std.specs.Prelude.{◌≡◌, ◌+◌, ◌-◌, ◌*◌, ◌≤◌, ◌<◌, length};
+ghost use Rattle.std.specs.Prelude.{◌≡◌, ◌+◌, ◌-◌, ◌*◌, ◌≤◌, ◌<◌};
 ghost use Rattle.words.specs.Words.{words};
 ghost use Rattle.words.specs.Zeros.{zeros_at};
 ghost use Rattle.node_allocator.specs.Layout.{record_at, capacity_of, width_of};
-ghost use Rattle.inspection.specs.Room.{Room};
 ghost use Rattle.full_check.specs.Chains.{free_count, Chained, node_chain, value_chain};
 
+use inspection::Image;
 use inspection::tests::{free_node, free_value};
 use node_allocator::{Arena, Counts, capacity, record_at, width};
 use records::read::{node_in, value_record};
@@ -38,13 +38,12 @@ fn chain<F: Fn(u32) -> Option<u32>>(c: Counts, link: F) -> bool
 }
 
 // The chain of free nodes.
-pub fn node_chain(img: &[u8], h: Header) -> bool
-    requires { Room h (length (words img.now)) }
-    ensures { result ≡ node_chain h (words img.now) }
+pub fn node_chain(image: &Image) -> bool
+    ensures { result ≡ node_chain image.now.h (words image.now.bytes.now) }
 {
-    chain(h.nodes, |i| {
-        let x = node_in(img, NodeIndex(i));
-        free_node(img, h, NodeIndex(i), x).then_some(x.left.0)
+    chain(image.h.nodes, |i| {
+        let x = node_in(image.bytes, NodeIndex(i));
+        free_node(image.bytes, image.h, NodeIndex(i), x).then_some(x.left.0)
     })
 }
 

@@ -13,23 +13,25 @@ ghost use Rattle.records.specs.Layout.{image_of};
 ghost use Rattle.records.specs.Numbers.{answer_number};
 ghost use Rattle.inspection.specs.Opening.{open_of};
 ghost use Rattle.inspection.specs.Tests.{shape_ok};
-ghost use Rattle.inspection.specs.Room.{Room};
 ghost use Rattle.full_check.specs.Check.{unmarked, records_ok, opened_check, check_of, check_scratch};
 ghost use Rattle.full_check.specs.Scratch.{ScratchLeft};
 
 use chains::{node_chain, unused, value_chain};
+use inspection::Image;
 use inspection::open::{is_image, open_shaped};
 use node_allocator::Arena;
-use records::{Header, Refusal};
+use records::Refusal;
 use walk::tree_ok;
 
 // The tree, both chains, and what was never used.
-fn records_ok(img: &[u8], marks: &mut [u8], m: u32, n: u32, h: Header) -> bool
-    requires { Room h (length (words img.now)) × (words marks.old ≡ unmarked m) }
-    ensures { result ≡ records_ok m n h (words img.now) }
+fn records_ok(image: &Image, marks: &mut [u8], m: u32, n: u32) -> bool
+    requires { words marks.old ≡ unmarked m }
+    ensures { result ≡ records_ok m n image.now.h (words image.now.bytes.now) }
 {
-    tree_ok(img, marks, n, h)
-        & node_chain(img, h)
+    let img = image.bytes;
+    let h = image.h;
+    tree_ok(image, marks, n)
+        & node_chain(image)
         & value_chain(img, n, h)
         & unused(img, Arena::Nodes { nodes: n }, h.nodes.bump)
         & unused(
@@ -49,7 +51,8 @@ fn opened_check(img: &[u8], marks: &mut [u8], m: u32, n: u32) -> Result<(), Refu
     ensures { result ≡ opened_check m n (image_of img.now) (open_of m n (image_of img.now)) }
 {
     let h = open_shaped(img, m, n)?;
-    if records_ok(img, marks, m, n, h) {
+    let image = Image { bytes: img, h };
+    if records_ok(&image, marks, m, n) {
         return Ok(());
     }
     Err(Refusal::Damaged)

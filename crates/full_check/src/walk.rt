@@ -1,24 +1,21 @@
 // The walk over the tree: from the root to the left child, then to the right one, each node tested before it is relied on. The value
 // records that leaves name are marked, so that one named twice is found.
-ghost use Rattle.std.specs.Prelude.{◌≡◌, ◌&&◌, ◌+◌, ◌≤◌, ltb, length};
+ghost use Rattle.std.specs.Prelude.{◌≡◌, ◌&&◌, ◌≤◌, ltb};
 ghost use Rattle.words.specs.Words.{words};
-ghost use Rattle.inspection.specs.Room.{Room};
 ghost use Rattle.full_check.specs.Walk.{side_ok, leaf_walk};
 ghost use Rattle.full_check.specs.Walked.{walked, WalksTo};
 ghost use Rattle.full_check.specs.Check.{tree_ok};
 
-use inspection::Visited;
-use inspection::visit::{live_value, root_ok, visit};
+use inspection::visit::live_value;
+use inspection::{Image, Visited};
 use keys::{Key, bit, leading_equal};
-use records::{Header, Node, NodeIndex};
+use records::{Node, NodeIndex};
 
-// What a walk goes over: an image, its N, and its header, which gives room for every node below the bump.
+// What a walk goes over: an image, and its N.
 #[derive(Clone, Copy)]
-struct Image<'a> {
-    bytes: &'a [u8],
+struct Ground<'a> {
+    image: Image<'a>,
     n: u32,
-    h: Header,
-    ghost room: { Room h (length (words bytes.now)) },
 }
 
 // Where a node is reached from: the node above, the least prefix length below that one, its key, and the side.
@@ -70,10 +67,10 @@ fn leaf_walk(img: &[u8], marks: &mut [u8], n: u32, rest: u64, i: NodeIndex, x: N
 
 // Node `i`, reached from the node above, and all nodes below it.
 #[tactic(auto, using(crate::proofs::Rules::ends))]
-fn walk(image: &Image, marks: &mut [u8], rest: u64, i: NodeIndex, above: &Above) -> Option<u64>
-    ensures { WalksTo image.now.n image.now.h (words image.now.bytes.now) rest (words marks.old) i.0 above.now.at.0 above.now.low above.now.key above.now.right (walked result (words marks.new)) }
+fn walk(ground: &Ground, marks: &mut [u8], rest: u64, i: NodeIndex, above: &Above) -> Option<u64>
+    ensures { WalksTo ground.now.n ground.now.image.h (words ground.now.image.bytes.now) rest (words marks.old) i.0 above.now.at.0 above.now.low above.now.key above.now.right (walked result (words marks.new)) }
 {
-    match visit(image.bytes, image.h, i, above.at, above.low) {
+    match ground.image.visit(i, above.at, above.low) {
         Visited::Inner(x) => {
             if above.in_order(rest, x) {
                 let mut below = Above {
@@ -82,15 +79,15 @@ fn walk(image: &Image, marks: &mut [u8], rest: u64, i: NodeIndex, above: &Above)
                     key: x.key,
                     right: false,
                 };
-                let more = walk(image, marks, rest - 1, x.left, &below)?;
+                let more = walk(ground, marks, rest - 1, x.left, &below)?;
                 below.right = true;
-                return walk(image, marks, more, x.right, &below);
+                return walk(ground, marks, more, x.right, &below);
             }
             None
         }
         Visited::Leaf(x) => {
             if above.in_order(rest, x) {
-                return leaf_walk(image.bytes, marks, image.n, rest - 1, i, x);
+                return leaf_walk(ground.image.bytes, marks, ground.n, rest - 1, i, x);
             }
             None
         }
@@ -100,24 +97,23 @@ fn walk(image: &Image, marks: &mut [u8], rest: u64, i: NodeIndex, above: &Above)
 
 // The root keeps its rule, and the tree reaches as many nodes as node size says; an empty map has none.
 #[tactic(auto, unfolding(crate::specs::Check::tree_ok, crate::specs::Check::root_walk))]
-pub fn tree_ok(img: &[u8], marks: &mut [u8], n: u32, h: Header) -> bool
-    requires { Room h (length (words img.now)) }
-    ensures { result ≡ tree_ok n h (words img.now) (words marks.old) }
+pub fn tree_ok(image: &Image, marks: &mut [u8], n: u32) -> bool
+    ensures { result ≡ tree_ok n image.now.h (words image.now.bytes.now) (words marks.old) }
 {
-    if h.values.size == 0 {
+    if image.h.values.size == 0 {
         return true;
     }
-    if !root_ok(img, h) {
+    if !image.root_ok() {
         return false;
     }
-    let root = h.root;
+    let root = image.h.root;
     let none = Above {
         at: NodeIndex(0),
         low: 0,
         key: Key { high: 0, low: 0 },
         right: false,
     };
-    let image = Image { bytes: img, n, h };
-    let left = walk(&image, marks, h.nodes.size, root, &none);
+    let ground = Ground { image: *image, n };
+    let left = walk(&ground, marks, image.h.nodes.size, root, &none);
     left == Some(0)
 }

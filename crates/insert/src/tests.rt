@@ -13,9 +13,10 @@ ghost use Rattle.insert.specs.Steps.{opened_plan};
 
 use crate::Plan;
 use descent::{Stop, find};
+use inspection::Image;
 use inspection::open::open_image;
 use inspection::tests::{free_node, free_value};
-use inspection::visit::{kids_ok, live_value};
+use inspection::visit::live_value;
 use keys::Key;
 use node_allocator::{Arena, never_used};
 use records::read::{node_in, value_record};
@@ -34,96 +35,89 @@ fn fresh_node(img: &[u8], n: u32, i: NodeIndex) -> bool
     false
 }
 
-// A node that is taken: below the bump it is free, and from there on it was never used.
-fn taken_node(img: &[u8], m: u32, n: u32, h: Header, i: NodeIndex) -> bool
-    requires { (1 ≤ i.0) × Ready m n h (length (words img.now)) }
-    ensures { result ≡ taken_node n h (words img.now) i.0 }
-{
-    if i.0 < h.nodes.bump {
-        return free_node(img, h, i, node_in(img, i));
-    }
-    fresh_node(img, n, i)
+// An image that has been opened, with its M and N.
+#[derive(Clone, Copy)]
+struct Opened<'a> {
+    image: Image<'a>,
+    m: u32,
+    n: u32,
+    ghost ready: { Ready m n image.h (length (words image.bytes.now)) },
 }
 
-// The node that is taken after the one at the head, if that may be taken.
-fn behind_head(img: &[u8], m: u32, n: u32, h: Header) -> Option<NodeIndex>
-    requires { Ready m n h (length (words img.now)) }
-    ensures { result ≡ behind_head n h (words img.now) }
-{
-    let i = NodeIndex(h.nodes.head);
-    if i.0 < h.nodes.bump {
-        let x = node_in(img, i);
-        if free_node(img, h, i, x) {
-            return Some(x.left);
+impl Opened<'_> {
+    // A node that is taken: below the bump it is free, and from there on it was never used.
+    fn taken_node(&self, i: NodeIndex) -> bool
+        requires { 1 ≤ i.0 }
+        ensures { result ≡ taken_node self.now.n self.now.image.h (words self.now.image.bytes.now) i.0 }
+    {
+        let img = self.image.bytes;
+        let h = self.image.h;
+        if i.0 < h.nodes.bump {
+            return free_node(img, h, i, node_in(img, i));
         }
-    } else if fresh_node(img, n, i) {
-        return Some(NodeIndex(i.0 + 1));
+        fresh_node(img, self.n, i)
     }
-    None
-}
 
-// The value record that is taken.
-fn taken_value(img: &[u8], m: u32, n: u32, h: Header, j: ValueIndex) -> bool
-    requires { Ready m n h (length (words img.now)) }
-    ensures { result ≡ taken_value m n h (words img.now) j.0 }
-{
-    if j.0 < h.values.bump {
-        return free_value(h, j, value_record(img, n, j));
+    // The node that is taken after the one at the head, if that may be taken.
+    fn behind_head(&self) -> Option<NodeIndex>
+        ensures { result ≡ behind_head self.now.n self.now.image.h (words self.now.image.bytes.now) }
+    {
+        let img = self.image.bytes;
+        let h = self.image.h;
+        let i = NodeIndex(h.nodes.head);
+        if i.0 < h.nodes.bump {
+            let x = node_in(img, i);
+            if free_node(img, h, i, x) {
+                return Some(x.left);
+            }
+        } else if fresh_node(img, self.n, i) {
+            return Some(NodeIndex(i.0 + 1));
+        }
+        None
     }
-    if j.0 <= m {
-        let a = Arena::Values {
-            nodes: n,
-            values: m,
-        };
-        return never_used(img, a, j.0);
+
+    // The value record that is taken.
+    fn taken_value(&self, j: ValueIndex) -> bool
+        ensures { result ≡ taken_value self.now.m self.now.n self.now.image.h (words self.now.image.bytes.now) j.0 }
+    {
+        let img = self.image.bytes;
+        let h = self.image.h;
+        if j.0 < h.values.bump {
+            return free_value(h, j, value_record(img, self.n, j));
+        }
+        if j.0 <= self.m {
+            let a = Arena::Values {
+                nodes: self.n,
+                values: self.m,
+            };
+            return never_used(img, a, j.0);
+        }
+        false
     }
-    false
-}
 
-// The records that a leaf takes: a node and a value record.
-fn leaf_tests(img: &[u8], m: u32, n: u32, h: Header) -> bool
-    requires { Ready m n h (length (words img.now)) }
-    ensures { result ≡ leaf_tests m n h (words img.now) }
-{
-    taken_node(img, m, n, h, NodeIndex(h.nodes.head))
-        & taken_value(img, m, n, h, ValueIndex(h.values.head))
-}
+    // The records that a leaf takes: a node and a value record.
+    fn leaf_tests(&self) -> bool
+        ensures { result ≡ leaf_tests self.now.m self.now.n self.now.image.h (words self.now.image.bytes.now) }
+    {
+        let h = self.image.h;
+        self.taken_node(NodeIndex(h.nodes.head)) & self.taken_value(ValueIndex(h.values.head))
+    }
 
-// The records that a split takes: those of the leaf, and a second node.
-fn split_tests(img: &[u8], m: u32, n: u32, h: Header) -> bool
-    requires { Ready m n h (length (words img.now)) }
-    ensures { result ≡ split_tests m n h (words img.now) }
-{
-    match behind_head(img, m, n, h) {
-        Some(next) => taken_value(img, m, n, h, ValueIndex(h.values.head))
-            & taken_node(img, m, n, h, next),
-        None => false,
+    // The records that a split takes: those of the leaf, and a second node.
+    fn split_tests(&self) -> bool
+        ensures { result ≡ split_tests self.now.m self.now.n self.now.image.h (words self.now.image.bytes.now) }
+    {
+        match self.behind_head() {
+            Some(next) => self.taken_value(ValueIndex(self.image.h.values.head))
+                & self.taken_node(next),
+            None => false,
+        }
     }
 }
 
 // ---- the plan
 
-// At node `i`, whose record is `x`, where the key parts from the map.
-#[tactic(auto, unfolding(crate::specs::Plan::stop_plan))]
-fn split_plan(
-    img: &[u8],
-    m: u32,
-    n: u32,
-    h: Header,
-    i: NodeIndex,
-    x: Node,
-    shared: u64,
-) -> Result<Plan, Refusal>
-    requires { Ready m n h (length (words img.now)) }
-    ensures { result ≡ stop_plan m n h (words img.now) (Parted i x shared) }
-{
-    if kids_ok(img, h, i, x) & split_tests(img, m, n, h) {
-        return Ok(Plan::Split(h, i, x, shared));
-    }
-    Err(Refusal::Damaged)
-}
-
-// At the equal leaf.
+// At the equal leaf. It asks nothing of the image, and so is no method of `Opened`.
 #[tactic(auto, using(inspection::specs::Visit::live_tested), unfolding(crate::specs::Plan::stop_plan))]
 fn replace_plan(
     img: &[u8],
@@ -141,30 +135,43 @@ fn replace_plan(
     Err(Refusal::Damaged)
 }
 
-// Into the empty map.
-#[tactic(auto, unfolding(crate::specs::Plan::stop_plan))]
-fn first_plan(img: &[u8], m: u32, n: u32, h: Header) -> Result<Plan, Refusal>
-    requires { Ready m n h (length (words img.now)) }
-    ensures { result ≡ stop_plan m n h (words img.now) Empty }
-{
-    if leaf_tests(img, m, n, h) {
-        return Ok(Plan::First(h));
+impl Opened<'_> {
+    // At node `i`, whose record is `x`, where the key parts from the map.
+    #[tactic(auto, unfolding(crate::specs::Plan::stop_plan))]
+    fn split_plan(&self, i: NodeIndex, x: Node, shared: u64) -> Result<Plan, Refusal>
+        ensures { result ≡ stop_plan self.now.m self.now.n self.now.image.h (words self.now.image.bytes.now) (Parted i x shared) }
+    {
+        if self.image.kids_ok(i, x) & self.split_tests() {
+            return Ok(Plan::Split(self.image.h, i, x, shared));
+        }
+        Err(Refusal::Damaged)
     }
-    Err(Refusal::Damaged)
-}
 
-fn plan_of(img: &[u8], m: u32, n: u32, h: Header, key: Key) -> Result<Plan, Refusal>
-    requires { Ready m n h (length (words img.now)) }
-    ensures { result ≡ insert_plan m n h (words img.now) key }
-{
-    if h.values.size == (m as u64) {
-        return Err(Refusal::Full);
+    // Into the empty map.
+    #[tactic(auto, unfolding(crate::specs::Plan::stop_plan))]
+    fn first_plan(&self) -> Result<Plan, Refusal>
+        ensures { result ≡ stop_plan self.now.m self.now.n self.now.image.h (words self.now.image.bytes.now) Empty }
+    {
+        if self.leaf_tests() {
+            return Ok(Plan::First(self.image.h));
+        }
+        Err(Refusal::Damaged)
     }
-    match find(img, h, key) {
-        Stop::Parted(i, x, shared) => split_plan(img, m, n, h, i, x, shared),
-        Stop::Leaf(i, x) => replace_plan(img, m, n, h, i, x),
-        Stop::Empty => first_plan(img, m, n, h),
-        Stop::Damaged => Err(Refusal::Damaged),
+
+    // By where the key leads; a full map is refused before the key is looked for.
+    fn plan(&self, key: Key) -> Result<Plan, Refusal>
+        ensures { result ≡ insert_plan self.now.m self.now.n self.now.image.h (words self.now.image.bytes.now) key }
+    {
+        let h = self.image.h;
+        if h.values.size == (self.m as u64) {
+            return Err(Refusal::Full);
+        }
+        match find(&self.image, key) {
+            Stop::Parted(i, x, shared) => self.split_plan(i, x, shared),
+            Stop::Leaf(i, x) => replace_plan(self.image.bytes, self.m, self.n, h, i, x),
+            Stop::Empty => self.first_plan(),
+            Stop::Damaged => Err(Refusal::Damaged),
+        }
     }
 }
 
@@ -174,5 +181,6 @@ pub fn plan(img: &[u8], m: u32, n: u32, key: Key) -> Result<Plan, Refusal>
     ensures { result ≡ opened_plan m n (image_of img.now) key (open_of m n (image_of img.now)) }
 {
     let h = open_image(img, m, n)?;
-    plan_of(img, m, n, h, key)
+    let image = Image { bytes: img, h };
+    Opened { image, m, n }.plan(key)
 }

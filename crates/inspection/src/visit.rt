@@ -1,12 +1,11 @@
 // A visited node: the one test of it, what both kinds share and then its own; its children; and the value record of a leaf.
-ghost use Rattle.std.specs.Prelude.{◌≡◌, ◌+◌, ◌*◌, ◌≤◌, length};
+ghost use Rattle.std.specs.Prelude.{◌≡◌};
 ghost use Rattle.words.specs.Words.{words};
-ghost use Rattle.inspection.specs.Room.{Room};
 ghost use Rattle.inspection.specs.Tests.{node_ok, root_ok, kids_ok};
 ghost use Rattle.inspection.specs.Visit.{of_kind, by_kind, visit_of, first_of, live_of};
 
-use crate::Visited;
 use crate::tests::{inner_form, is_used, leaf_form, padding_ok};
+use crate::{Image, Visited};
 use records::read::{node_in, value_record};
 use records::{Header, Node, NodeIndex, Value, ValueIndex};
 
@@ -42,68 +41,71 @@ fn by_kind(h: Header, clean: bool, above: NodeIndex, low: u64, x: Node) -> Visit
     Visited::Damaged
 }
 
-// The node at an index, tested as a visited node.
-pub fn visit(img: &[u8], h: Header, i: NodeIndex, above: NodeIndex, low: u64) -> Visited
-    requires { Room h (length (words img.now)) }
-    ensures { result ≡ visit_of h (words img.now) i.0 above.0 low }
-{
-    if is_used(h, i) {
-        return by_kind(h, padding_ok(img, i), above, low, node_in(img, i));
-    }
-    Visited::Damaged
-}
-
-// The same without Parent and prefix order, for a node that has no known parent.
-pub fn visit_first(img: &[u8], h: Header, i: NodeIndex) -> Visited
-    requires { Room h (length (words img.now)) }
-    ensures { result ≡ first_of h (words img.now) i.0 }
-{
-    if is_used(h, i) {
-        let x = node_in(img, i);
-        let own = x.parent;
-        return by_kind(h, padding_ok(img, i), own, 0, x);
-    }
-    Visited::Damaged
-}
-
-// Whether the node at an index passes as a visited node.
-pub fn node_ok(img: &[u8], h: Header, i: NodeIndex, above: NodeIndex, low: u64) -> bool
-    requires { Room h (length (words img.now)) }
-    ensures { result ≡ node_ok h (words img.now) i.0 above.0 low }
-{
-    match visit(img, h, i, above, low) {
-        Visited::Inner(_) => true,
-        Visited::Leaf(_) => true,
-        Visited::Damaged => false,
-    }
-}
-
-// The root is a leaf exactly if n is 1.
-pub fn root_ok(img: &[u8], h: Header) -> bool
-    requires { Room h (length (words img.now)) }
-    ensures { result ≡ root_ok h (words img.now) }
-{
-    let root = h.root;
-    if is_used(h, root) {
-        let x = node_in(img, root);
-        return (x.value.0 != 0) == (h.values.size == 1);
-    }
-    false
-}
-
-// The children of node `i`, whose record is `x`, tested as visited nodes; a leaf has none.
-pub fn kids_ok(img: &[u8], h: Header, i: NodeIndex, x: Node) -> bool
-    requires { Room h (length (words img.now)) }
-    ensures { result ≡ kids_ok h (words img.now) i.0 x }
-{
-    if x.value.0 == 0 {
-        if x.prefix < 128 {
-            let low = x.prefix + 1;
-            return node_ok(img, h, x.left, i, low) & node_ok(img, h, x.right, i, low);
+impl Image<'_> {
+    // The node at an index, tested as a visited node.
+    pub fn visit(&self, i: NodeIndex, above: NodeIndex, low: u64) -> Visited
+        ensures { result ≡ visit_of self.now.h (words self.now.bytes.now) i.0 above.0 low }
+    {
+        if is_used(self.h, i) {
+            return by_kind(
+                self.h,
+                padding_ok(self.bytes, i),
+                above,
+                low,
+                node_in(self.bytes, i),
+            );
         }
-        return false;
+        Visited::Damaged
     }
-    true
+
+    // The same without Parent and prefix order, for a node that has no known parent.
+    pub fn visit_first(&self, i: NodeIndex) -> Visited
+        ensures { result ≡ first_of self.now.h (words self.now.bytes.now) i.0 }
+    {
+        if is_used(self.h, i) {
+            let x = node_in(self.bytes, i);
+            let own = x.parent;
+            return by_kind(self.h, padding_ok(self.bytes, i), own, 0, x);
+        }
+        Visited::Damaged
+    }
+
+    // Whether the node at an index passes as a visited node.
+    pub fn node_ok(&self, i: NodeIndex, above: NodeIndex, low: u64) -> bool
+        ensures { result ≡ node_ok self.now.h (words self.now.bytes.now) i.0 above.0 low }
+    {
+        match self.visit(i, above, low) {
+            Visited::Inner(_) => true,
+            Visited::Leaf(_) => true,
+            Visited::Damaged => false,
+        }
+    }
+
+    // The root is a leaf exactly if n is 1.
+    pub fn root_ok(&self) -> bool
+        ensures { result ≡ root_ok self.now.h (words self.now.bytes.now) }
+    {
+        let root = self.h.root;
+        if is_used(self.h, root) {
+            let x = node_in(self.bytes, root);
+            return (x.value.0 != 0) == (self.h.values.size == 1);
+        }
+        false
+    }
+
+    // The children of node `i`, whose record is `x`, tested as visited nodes; a leaf has none.
+    pub fn kids_ok(&self, i: NodeIndex, x: Node) -> bool
+        ensures { result ≡ kids_ok self.now.h (words self.now.bytes.now) i.0 x }
+    {
+        if x.value.0 == 0 {
+            if x.prefix < 128 {
+                let low = x.prefix + 1;
+                return self.node_ok(x.left, i, low) & self.node_ok(x.right, i, low);
+            }
+            return false;
+        }
+        true
+    }
 }
 
 // The value that record `j` of leaf `leaf` holds, if it passes: its four registers are 0.

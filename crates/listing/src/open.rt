@@ -1,26 +1,18 @@
 // Opening one node, and what the leaf comes to. The loop that opens nodes until a leaf comes is in step.rt. No node is read twice.
-ghost use Rattle.std.specs.Prelude.{◌≡◌, ◌+◌, ◌-◌, ◌*◌, ◌≤◌, ◌<◌, length};
+ghost use Rattle.std.specs.Prelude.{◌≡◌, ◌+◌, ◌-◌, ◌*◌, ◌≤◌, ◌<◌};
 ghost use Rattle.words.specs.Words.{words};
-ghost use Rattle.inspection.specs.Room.{Room};
 ghost use Rattle.listing.specs.Step.{open_turn};
 ghost use Rattle.listing.specs.Ends.{live_given, given_of};
 
 use crate::{Given, Opens};
-use inspection::Visited;
-use inspection::visit::{live_value, node_ok, visit};
-use records::{Header, Node, NodeIndex, Refusal, Value, ValueIndex};
+use inspection::visit::live_value;
+use inspection::{Image, Visited};
+use records::{Node, NodeIndex, Refusal, Value, ValueIndex};
 
 // One node of the opening: node `i`, which has passed, on a stack of so many places. Both children are tested.
-pub fn open_turn(
-    img: &[u8],
-    h: Header,
-    back: bool,
-    count: u32,
-    i: NodeIndex,
-    came: Visited,
-) -> Opens
-    requires { Room h (length (words img.now)) × (count ≤ 129) }
-    ensures { result ≡ open_turn back h (words img.now) count i came }
+pub fn open_turn(image: &Image, back: bool, count: u32, i: NodeIndex, came: Visited) -> Opens
+    requires { count ≤ 129 }
+    ensures { result ≡ open_turn back image.now.h (words image.now.bytes.now) count i came }
 {
     match came {
         Visited::Inner(x) => {
@@ -28,9 +20,9 @@ pub fn open_turn(
                 if x.prefix < 128 {
                     let low = x.prefix + 1;
                     let wait = x.child(!back);
-                    if node_ok(img, h, wait, i, low) {
+                    if image.node_ok(wait, i, low) {
                         let next = x.child(back);
-                        return Opens::On(wait, next, visit(img, h, next, i, low));
+                        return Opens::On(wait, next, image.visit(next, i, low));
                     }
                 }
             }

@@ -1,17 +1,15 @@
 // Making a position, and a step at an end.
-ghost use Rattle.std.specs.Prelude.{◌≡◌, ◌+◌, ◌-◌, ◌*◌, ◌≤◌, ◌<◌, true, false, length};
+ghost use Rattle.std.specs.Prelude.{◌≡◌, ◌+◌, ◌-◌, ◌*◌, ◌≤◌, ◌<◌, true, false};
 ghost use Rattle.words.specs.Words.{words};
 ghost use Rattle.records.specs.Layout.{image_of};
-ghost use Rattle.inspection.specs.Room.{Room};
 ghost use Rattle.listing.specs.Position.{empty_stack, root_stack, both_ends, opened_made, made_of};
 ghost use Rattle.listing.specs.Step.{step_of};
 ghost use Rattle.listing.specs.Ends.{admit_of, stayed, given as given_moved, end_step};
 
 use crate::open::{given, open_turn};
 use crate::{Given, Made, Moved, Opens, Position, Stack, Stepped};
-use inspection::Visited;
 use inspection::open::{is_image, open_image, open_shaped};
-use inspection::visit::visit_first;
+use inspection::{Image, Visited};
 use records::{Header, NodeIndex, Refusal, ValueIndex};
 
 // ---- making a position
@@ -141,9 +139,10 @@ fn step(
     let mut count = s.count - 1;
     let top = count as usize;
     let mut i = places[top];
-    let mut came = visit_first(img, h, i);
+    let image = Image { bytes: img, h };
+    let mut came = image.visit_first(i);
     let reached = loop {
-        match open_turn(img, h, back, count, i, came) {
+        match open_turn(&image, back, count, i, came) {
             Opens::On(wait, next, what) => {
                 let at = count as usize;
                 places[at] = wait;

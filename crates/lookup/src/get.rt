@@ -7,6 +7,7 @@ ghost use Rattle.inspection.specs.Outcome.{Leaves};
 ghost use Rattle.lookup.specs.Get.{stop_target, target_of, get_of, contains_of, addr_of, write_of, write_image};
 
 use descent::{Stop, find};
+use inspection::Image;
 use inspection::open::open_image;
 use inspection::visit::live_value;
 use keys::Key;
@@ -31,7 +32,8 @@ fn target(img: &[u8], m: u32, n: u32, key: Key) -> Result<(NodeIndex, Node, Valu
     ensures { result ≡ target_of m n (image_of img.now) key }
 {
     let h = open_image(img, m, n)?;
-    stop_target(img, n, find(img, h, key))
+    let image = Image { bytes: img, h };
+    stop_target(img, n, find(&image, key))
 }
 
 // The value of a key.
@@ -59,7 +61,8 @@ pub fn contains(img: &[u8], m: u32, n: u32, key: Key) -> Result<(), Refusal>
     ensures { result ≡ contains_of m n (image_of img.now) key }
 {
     let h = open_image(img, m, n)?;
-    find(img, h, key).leaf()?;
+    let image = Image { bytes: img, h };
+    find(&image, key).leaf()?;
     Ok(())
 }
 
@@ -69,6 +72,7 @@ pub fn get_addr(img: &[u8], m: u32, n: u32, key: Key) -> Result<NodeIndex, Refus
     ensures { result ≡ addr_of m n (image_of img.now) key }
 {
     let h = open_image(img, m, n)?;
-    let (i, _) = find(img, h, key).leaf()?;
+    let image = Image { bytes: img, h };
+    let (i, _) = find(&image, key).leaf()?;
     Ok(i)
 }

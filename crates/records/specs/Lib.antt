@@ -2,4 +2,5 @@
 pub mod Layout
 pub mod Records
 pub mod Writes
+pub mod Rewritten
 pub mod Numbers

@@ -3,6 +3,7 @@
 #![tactic(auto)]
 
 pub mod read; // read.rt: the header, a node, a value record, and the words that are padding
+pub mod arenas; // arenas.rt: the two arenas of an image that is lent to be written
 pub mod write; // write.rt: a node's data, a value record, the root
 
 ghost use Rattle.std.specs.Prelude.{◌≡◌, cond};

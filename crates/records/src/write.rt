@@ -1,5 +1,5 @@
 // The one way to store a node's data, a value record and the root. An index that names no record stores nothing; the image is known to hold M value
-// records behind N nodes.
+// records behind N nodes. `arenas` has the same stores for a buffer that holds this of itself.
 ghost use Rattle.std.specs.Prelude.{◌≡◌, ◌+◌, ◌*◌, ◌≤◌, length, set};
 ghost use Rattle.words.specs.Words.{words};
 ghost use Rattle.records.specs.Records.{with_parent};

@@ -15,7 +15,7 @@ use Rattle.inspection.specs.Tests.{arena_ok, counts_ok, header_ok, top_ok, paddi
 use Rattle.inspection.specs.Visit.{live_of}
 use Rattle.inspection.specs.Opening.{open_shaped, open_of}
 use Rattle.descent.specs.Descent.{child_of, bits_turn, turn_at, descend, from_root}
-use Rattle.remove.specs.Plan.{sibling_of, sibling_ok, cut_plan, leaf_plan, stop_plan, reached_plan}
+use Rattle.remove.specs.Plan.{sibling_of, sibling_ok, cut_plan, leaf_plan, reached_plan}
 use Rattle.remove.specs.Steps.{leaf_freed, moved, place_freed, cut_image, plan_image, value_gone, opened_plan, remove_of, removed_image}
 
 abbrev A : Key

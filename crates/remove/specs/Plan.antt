@@ -1,6 +1,6 @@
 -- What remove finds out before it writes: rules S4, S10 and S13. Everything is tested on the image as it was before the call, and the plan carries what was
 -- found: the header, the leaf, the node above it, the sibling and the value.
-use Rattle.std.specs.Prelude.{List, Bool, cond, ◌&&◌, ℕ, ◌+◌, eqb, ltb, None, Option, Some, Err, Ok, Result}
+use Rattle.std.specs.Prelude.{◌≡◌, refl, List, Bool, true, false, cond, not, ◌&&◌, ℕ, ◌+◌, eqb, ltb, None, Option, Some, Err, Ok, Result}
 use Rattle.records.specs.declared.Refusal.{Refusal}
 use Rattle.keys.specs.declared.Key.{Key}
 use Rattle.keys.specs.Number.{number_of}
@@ -22,6 +22,15 @@ use Rattle.remove.specs.declared.Plan.TheVariants.{Lone, Cut}
 -- the child of a node that the key does not turn to
 unfoldable pub sibling_of : Key → Node → NodeIndex
 sibling_of key x = cond (bit_of (number_of key) x.prefix) x.left x.right
+
+-- which is the child on the other side than the key's bit
+pub sibling_child : (key : Key) (x : Node) → cond (not (bit_of (number_of key) x.prefix)) x.right x.left ≡ sibling_of key x
+unfolding sibling_of
+sibling_child key x = go (bit_of (number_of key) x.prefix)
+  where
+    go : (b : Bool) → cond (not b) x.right x.left ≡ cond b x.left x.right
+    go true = refl
+    go false = refl
 
 -- the sibling s of a leaf below node p of prefix length `prefix`, tested as a visited node, and its children if it is inner. (Node p was visited, so its
 -- prefix length is 0..127.)

@@ -32,7 +32,7 @@ use Rattle.std.specs.declared.ops.ControlFlow.TheVariants.{Break}
 use Rattle.descent.specs.Descent.{down, is_inner, child_of, bits_turn, turn_at, follow, descend, no_node, from_root, leaf_of}
 use Rattle.remove.specs.declared.Plan.{Plan}
 use Rattle.remove.specs.declared.Plan.TheVariants.{Lone, Cut}
-use Rattle.remove.specs.Plan.{sibling_of, sibling_ok, cut_plan, leaf_plan, stop_plan, reached_plan}
+use Rattle.remove.specs.Plan.{sibling_of, sibling_ok, cut_plan, leaf_plan, reached_plan}
 use Rattle.remove.specs.Steps.{plan_image, value_gone, opened_plan, remove_of, removed_image}
 
 -- ---- a refusal

@@ -1,54 +1,36 @@
 // What remove tests, all of it on the image as it was before the call. Nothing here writes, and no record is read twice.
-ghost use Rattle.std.specs.Prelude.{◌≡◌, length};
+ghost use Rattle.std.specs.Prelude.{◌≡◌};
 ghost use Rattle.words.specs.Words.{words};
 ghost use Rattle.records.specs.Layout.{image_of};
-ghost use Rattle.inspection.specs.Room.{Room};
 ghost use Rattle.inspection.specs.Visit.{live_of};
 ghost use Rattle.inspection.specs.Opening.{open_of};
-ghost use Rattle.remove.specs.Plan.{sibling_of, cut_plan, leaf_plan, remove_plan};
+ghost use Rattle.remove.specs.Plan.{cut_plan, leaf_plan, remove_plan};
 ghost use Rattle.remove.specs.Steps.{opened_plan};
 
 use crate::Plan;
 use descent::reach;
-use inspection::Visited;
 use inspection::open::open_image;
 use inspection::tests::is_used;
-use inspection::visit::{kids_ok, live_value, visit};
+use inspection::visit::live_value;
+use inspection::{Image, Visited};
 use keys::{Key, bit, same};
 use records::read::node_in;
-use records::{Header, Node, NodeIndex, Refusal, Value};
-
-// The child of a node that the key does not turn to.
-fn sibling(key: Key, x: Node) -> NodeIndex
-    ensures { result ≡ sibling_of key x }
-{
-    if bit(key, x.prefix) {
-        return x.left;
-    }
-    x.right
-}
+use records::{Node, NodeIndex, Refusal, Value};
 
 // Leaf `i`, whose record is `x` and whose value is `v`, below a node: its sibling is tested, and the sibling's children.
-fn cut_plan(
-    img: &[u8],
-    h: Header,
-    key: Key,
-    i: NodeIndex,
-    x: Node,
-    v: Value,
-) -> Result<Plan, Refusal>
-    requires { Room h (length (words img.now)) }
-    ensures { result ≡ cut_plan h (words img.now) key i x v }
+fn cut_plan(image: &Image, key: Key, i: NodeIndex, x: Node, v: Value) -> Result<Plan, Refusal>
+    ensures { result ≡ cut_plan image.now.h (words image.now.bytes.now) key i x v }
 {
+    let h = image.h;
     let p = x.parent;
     if is_used(h, p) {
-        let y = node_in(img, p);
+        let y = node_in(image.bytes, p);
         if y.prefix < 128 {
-            let s = sibling(key, y);
-            match visit(img, h, s, p, y.prefix + 1) {
+            let s = y.child(!bit(key, y.prefix)); // the child that the key does not turn to
+            match image.visit(s, p, y.prefix + 1) {
                 Visited::Leaf(z) => return Ok(Plan::Cut(h, i, x, y, s, z, v)),
                 Visited::Inner(z) => {
-                    if kids_ok(img, h, s, z) {
+                    if image.kids_ok(s, z) {
                         return Ok(Plan::Cut(h, i, x, y, s, z, v));
                     }
                 }
@@ -59,25 +41,17 @@ fn cut_plan(
     Err(Refusal::Damaged)
 }
 
-#[tactic(auto, unfolding(crate::specs::Plan::leaf_plan))]
 // The key's leaf `i`, whose record is `x`: its value record is tested; then it is the root, or hangs below a node.
-fn leaf_plan(
-    img: &[u8],
-    n: u32,
-    h: Header,
-    key: Key,
-    i: NodeIndex,
-    x: Node,
-) -> Result<Plan, Refusal>
-    requires { Room h (length (words img.now)) }
-    ensures { result ≡ leaf_plan h (words img.now) key i x (live_of n (words img.now) i.0 x.value.0) }
+#[tactic(auto, unfolding(crate::specs::Plan::leaf_plan))]
+fn leaf_plan(image: &Image, n: u32, key: Key, i: NodeIndex, x: Node) -> Result<Plan, Refusal>
+    ensures { result ≡ leaf_plan image.now.h (words image.now.bytes.now) key i x (live_of n (words image.now.bytes.now) i.0 x.value.0) }
 {
-    match live_value(img, n, i, x.value) {
+    match live_value(image.bytes, n, i, x.value) {
         Some(v) => {
             if x.parent.0 == 0 {
-                return Ok(Plan::Lone(h, i, x, v));
+                return Ok(Plan::Lone(image.h, i, x, v));
             }
-            cut_plan(img, h, key, i, x, v)
+            cut_plan(image, key, i, x, v)
         }
         None => Err(Refusal::Damaged),
     }
@@ -85,13 +59,12 @@ fn leaf_plan(
 
 // Where the key's bits lead, and whether the leaf there is the key's.
 #[tactic(auto, unfolding(crate::specs::Plan::reached_plan))]
-fn key_plan(img: &[u8], n: u32, h: Header, key: Key) -> Result<Plan, Refusal>
-    requires { Room h (length (words img.now)) }
-    ensures { result ≡ remove_plan n h (words img.now) key }
+fn key_plan(image: &Image, n: u32, key: Key) -> Result<Plan, Refusal>
+    ensures { result ≡ remove_plan n image.now.h (words image.now.bytes.now) key }
 {
-    let (i, x) = reach(img, h, key).leaf()?;
+    let (i, x) = reach(image, key).leaf()?;
     if same(key, x.key) {
-        return leaf_plan(img, n, h, key, i, x);
+        return leaf_plan(image, n, key, i, x);
     }
     Err(Refusal::Absent)
 }
@@ -102,5 +75,6 @@ pub fn image_plan(img: &[u8], m: u32, n: u32, key: Key) -> Result<Plan, Refusal>
     ensures { result ≡ opened_plan n (image_of img.now) key (open_of m n (image_of img.now)) }
 {
     let h = open_image(img, m, n)?;
-    key_plan(img, n, h, key)
+    let image = Image { bytes: img, h };
+    key_plan(&image, n, key)
 }

@@ -1,5 +1,5 @@
 -- `board::give` meets its contract. Assumes nothing.
-use Rattle.std.specs.Prelude.{◌≡◌, refl, true, false, not, eqb}
+use Rattle.std.specs.Prelude.{◌≡◌, refl, eqb}
 use Rattle.std.proofs.Common.{sym, ◌∙◌}
 use Rattle.std.proofs.lemmas.Bool.{not-true, not-false}
 use Rattle.records.specs.declared.Refusal.{Refusal}

@@ -1,6 +1,6 @@
 -- `board::logfringe_get` meets its contract. Assumes nothing.
 use Rattle.std.specs.Prelude.{Result}
-use Rattle.std.proofs.Common.{sym, ap, ◌∙◌, arith}
+use Rattle.std.proofs.Common.{sym, ap, ◌∙◌}
 use Rattle.records.specs.declared.Value.{Value}
 use Rattle.records.specs.declared.Refusal.{Refusal}
 use Rattle.records.specs.Layout.{image_of}

@@ -9,7 +9,7 @@ abbrev pub invariant-loop-next : goal.invariant-loop-next
 invariant-loop-next g l =
     let turn = g.D.Descend.turn l.by in
     (l.low ≤ 128)
-    × ((f : ℕ) × (129 ≤ f + l.low) × (descend turn f l.h (words l.img) l.at l.above l.low ≡ descend turn 129 l.h (words l.img) l.h.root no_node 0))
+    × ((f : ℕ) × (129 ≤ f + l.low) × (descend turn f l.image.h (words l.image.bytes.now) l.at l.above l.low ≡ descend turn 129 l.image.h (words l.image.bytes.now) l.image.h.root no_node 0))
 
 abbrev pub decreases-loop-next : goal.decreases-loop-next
 decreases-loop-next g l = 129 - l.low

@@ -1,5 +1,4 @@
 -- `full_check::opened_check` meets its contract. Assumes nothing.
-use Rattle.std.specs.Prelude.{◌≡◌, Err}
 use Rattle.std.proofs.Common.{sym, ◌∙◌, rules}
 use Rattle.inspection.specs.Room.{shaped_shut}
 use Rattle.full_check.specs.Check.{opened_check}

@@ -6,4 +6,4 @@ use Rattle.full_check.proofs.records_ok.Goals as goal
 
 pub returns : goal.returns
 unfolding records_ok nodes_unused values_unused record_at capacity_of width_of
-returns c = simp (c.tree_ok.ensures, c.node_chain.ensures, c.value_chain.ensures, c.unused.ensures, c.unused-2.ensures, c.requires.1)
+returns c = simp (c.tree_ok.ensures, c.node_chain.ensures, c.value_chain.ensures, c.unused.ensures, c.unused-2.ensures, c.requires)

@@ -1,36 +1,7 @@
 -- `insert::insert` meets its contract. Assumes nothing.
-use mathlib.Core.Path.{◌≡◌, sym, ap, ◌∙◌}
-use Rattle.std.specs.Prelude.{Ok, Err}
-use Rattle.insert.specs.declared.Plan.TheVariants.{First, Replace, Split}
-use Rattle.insert.specs.Steps.{plan_place, plan_image}
-use Rattle.insert.specs.Ready.{plan_room}
-use Rattle.insert.specs.Planned.{planned_answer, planned_image, refused_answer, refused_image}
 use borrow.Author.Rules.{rules}
+use Rattle.insert.proofs.Root.{done_image}
 use Rattle.insert.proofs.insert.Goals as goal
 
-pub split-requires : goal.split-requires
-split-requires c = plan_room _ _ _ (Ok (Split _ _ _ _)) tt _ (sym c.plan.ensures ∙ c.in_ok-h.was ∙ ap Ok c.in-Split.is)
-
-pub set_value-requires : goal.set_value-requires
-set_value-requires c = plan_room _ _ _ (Ok (Replace _ _)) tt _ (sym c.plan.ensures ∙ c.in_ok-h.was ∙ ap Ok c.in-Replace.is)
-
-pub first-requires : goal.first-requires
-first-requires c = plan_room _ _ _ (Ok (First _)) tt _ (sym c.plan.ensures ∙ c.in_ok-h.was ∙ ap Ok c.in-First.is)
-
-pub returns-in-Split : goal.returns-in-Split
-unfolding plan_place plan_image
-returns-in-Split c = let e = sym c.plan.ensures ∙ c.in_ok-h.was ∙ ap Ok c.in-Split.is in record { answer = planned_answer _ _ _ _ (Ok (Split _ _ _ _)) e; image = planned_image _ _ _ _ (Ok (Split _ _ _ _)) e tt _ _ (search rules) c.split.ensures }
-
-pub returns-in-Replace : goal.returns-in-Replace
-unfolding plan_place plan_image
-returns-in-Replace c = let e = sym c.plan.ensures ∙ c.in_ok-h.was ∙ ap Ok c.in-Replace.is in record { answer = planned_answer _ _ _ _ (Ok (Replace _ _)) e; image = planned_image _ _ _ _ (Ok (Replace _ _)) e tt _ _ (search rules) (c.set_value.ensures ∙ simp c.live_record.ensures) }
-
-pub returns-in-First : goal.returns-in-First
-unfolding plan_place plan_image
-returns-in-First c = let e = sym c.plan.ensures ∙ c.in_ok-h.was ∙ ap Ok c.in-First.is in record { answer = planned_answer _ _ _ _ (Ok (First _)) e; image = planned_image _ _ _ _ (Ok (First _)) e tt _ _ (search rules) c.first.ensures }
-
-pub returns-in_err-h : goal.returns-in_err-h
-returns-in_err-h c =
-    let e = sym c.plan.ensures ∙ c.in_err-h.was in
-    let given : c.from_residual.result ≡ Err c.in_err-h.field-0.0 = search rules in
-    record { answer = given ∙ refused_answer _ _ _ _ _ e; image = refused_image _ _ _ _ _ e _ }
+pub returns-clause-image : goal.returns-clause-image
+returns-clause-image c = done_image _ _ _ _ _ c.plan.ensures _ c.in_ok-plan.was _ _ (search rules) (search rules)

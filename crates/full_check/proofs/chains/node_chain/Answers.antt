@@ -6,4 +6,4 @@ use Rattle.full_check.proofs.chains.node_chain.Goals as goal
 
 pub returns : goal.returns
 unfolding node_chain
-returns c = c.chain.ensures (node_free c.args.h (words c.args.img.now)) (node_next (words c.args.img.now)) (λ i r one below e. search rules)
+returns c = c.chain.ensures (node_free c.args.image.now.h (words c.args.image.now.bytes.now)) (node_next (words c.args.image.now.bytes.now)) (λ i r one below e. search rules)

@@ -19,14 +19,14 @@ overflow_sub-count c = omega (arith, admit_count c.args.m c.args.n c.args.img.no
 pub bounds-places-top : goal.bounds-places-top
 bounds-places-top c = omega (arith, admit_count c.args.m c.args.n c.args.img.now c.args.ended c.args.held _ c.args.s.count (sym c.admit.ensures ∙ c.in-Ok.is))
 
-pub visit_first-came-requires : goal.visit_first-came-requires
-visit_first-came-requires c = admit_room c.args.m c.args.n c.args.img.now c.args.ended c.args.held _ c.args.s.count (sym c.admit.ensures ∙ c.in-Ok.is)
+pub invariant_of-image : goal.invariant_of-image
+invariant_of-image c = record { room = admit_room c.args.m c.args.n c.args.img.now c.args.ended c.args.held _ c.args.s.count (sym c.admit.ensures ∙ c.in-Ok.is) }
 
 pub loop-wait-init : goal.loop-wait-init
 loop-wait-init c = ((sym c.admit.ensures ∙ c.in-Ok.is), simp c.visit_first-came.ensures (opening c.args.back _ (words c.args.img.now) c.args.s (admit_count c.args.m c.args.n c.args.img.now c.args.ended c.args.held _ c.args.s.count (sym c.admit.ensures ∙ c.in-Ok.is)).1))
 
 pub open_turn-requires : goal.open_turn-requires
-open_turn-requires c = (admit_room c.args.m c.args.n c.args.img.now c.args.ended c.args.held _ c.args.s.count c.loop-wait.invariant.0, c.loop-wait.invariant.1.room)
+open_turn-requires c = c.loop-wait.invariant.1.room
 
 pub bounds-places-at : goal.bounds-places-at
 bounds-places-at c = omega (arith, opens_room c.args.back _ (words c.args.img.now) c.args.s c.loop-wait.places c.loop-wait.count c.loop-wait.i c.loop-wait.came c.loop-wait.invariant.1 _ _ _ (sym c.open_turn.ensures ∙ c.in-On.is))

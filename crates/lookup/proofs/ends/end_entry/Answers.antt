@@ -1,7 +1,7 @@
 -- `lookup::ends::end_entry` meets its contract. Assumes nothing.
 use mathlib.Core.Path.{sym, ◌∙◌}
 use Rattle.std.proofs.Common.{rules}
-use Rattle.inspection.specs.Room.{room, opened_words}
+use Rattle.inspection.specs.Room.{opened_words}
 use Rattle.lookup.specs.Ends.{end_entry, opened_entry, target_entry}
 use Rattle.lookup.proofs.ends.end_entry.Goals as goal
 

@@ -1,7 +1,7 @@
 -- `lookup::get::contains` meets its contract. Assumes nothing.
 use mathlib.Core.Path.{sym, ◌∙◌}
 use Rattle.std.proofs.Common.{rules}
-use Rattle.inspection.specs.Room.{room, opened_words}
+use Rattle.inspection.specs.Room.{opened_words}
 use Rattle.lookup.specs.Get.{contains_of, opened_done, leaf_done}
 use Rattle.lookup.proofs.get.contains.Goals as goal
 

@@ -1,7 +1,7 @@
 -- `lookup::get::get_addr` meets its contract. Assumes nothing.
 use mathlib.Core.Path.{sym, ◌∙◌}
 use Rattle.std.proofs.Common.{rules}
-use Rattle.inspection.specs.Room.{room, opened_words}
+use Rattle.inspection.specs.Room.{opened_words}
 use Rattle.lookup.specs.Get.{addr_of, opened_place, leaf_place}
 use Rattle.lookup.proofs.get.get_addr.Goals as goal
 

@@ -1,0 +1,2 @@
+-- Lemmas that the functions of `insert` go by.
+mod Root

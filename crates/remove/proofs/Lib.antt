@@ -1,0 +1,2 @@
+-- Lemmas that the functions of `remove` go by.
+mod Root
