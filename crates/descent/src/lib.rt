@@ -98,23 +98,13 @@ impl Descend for ByKey {
     fn turn(self, image: &Image, i: NodeIndex, above: NodeIndex, low: u64) -> Turn {
         let key = self.0;
         match image.visit(i, above, low) {
-            Visited::Inner(x) => {
-                let own = x.key;
-                match goes(key, own, x.prefix) {
-                    Way::Left => {
-                        let left = x.left;
-                        Continue((left, x.prefix + 1))
-                    }
-                    Way::Right => {
-                        let right = x.right;
-                        Continue((right, x.prefix + 1))
-                    }
-                    Way::Parts => Break(Stop::Parted(i, x, leading_equal(key, own))),
-                }
-            }
+            Visited::Inner(x) => match goes(key, x.key, x.prefix) {
+                Way::Left => Continue((x.left, x.prefix + 1)),
+                Way::Right => Continue((x.right, x.prefix + 1)),
+                Way::Parts => Break(Stop::Parted(i, x, leading_equal(key, x.key))),
+            },
             Visited::Leaf(x) => {
-                let own = x.key;
-                let shared = leading_equal(key, own);
+                let shared = leading_equal(key, x.key);
                 if shared < x.prefix {
                     return Break(Stop::Parted(i, x, shared));
                 }

@@ -37,8 +37,7 @@ fn side_ok(low: u64, key: Key, right: bool, x: Node) -> bool
         return true;
     }
     let prefix = low - 1;
-    let own = x.key;
-    (prefix <= leading_equal(key, own)) & (bit(own, prefix) == right)
+    (prefix <= leading_equal(key, x.key)) & (bit(x.key, prefix) == right)
 }
 
 impl Above {

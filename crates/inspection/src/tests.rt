@@ -52,11 +52,9 @@ fn counts_ok(m: u32, h: Header) -> bool
 pub fn header_ok(m: u32, n: u32, h: Header) -> bool
     ensures { result ≡ header_ok m n h }
 {
-    let nodes = h.nodes;
-    let values = h.values;
     if counts_ok(m, h) {
-        if arena_ok(nodes, n) {
-            return arena_ok(values, m);
+        if arena_ok(h.nodes, n) {
+            return arena_ok(h.values, m);
         }
     }
     false

@@ -64,8 +64,7 @@ impl Image<'_> {
     {
         if is_used(self.h, i) {
             let x = node_in(self.bytes, i);
-            let own = x.parent;
-            return by_kind(self.h, padding_ok(self.bytes, i), own, 0, x);
+            return by_kind(self.h, padding_ok(self.bytes, i), x.parent, 0, x);
         }
         Visited::Damaged
     }

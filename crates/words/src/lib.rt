@@ -92,8 +92,8 @@ pub fn wide_in(bytes: &[u8], at: usize) -> u64
     joined(word_in(bytes, at), word_in(bytes, at + 1))
 }
 
-// Stores a 64-bit number in two words, the low word first; what lies past the end is not stored. A cast may lose no bits,
-// so that each word is made by % or / before it.
+// Stores a 64-bit number in two words, the low word first; what lies past the end is not stored. Two words and not eight
+// bytes, by % and /: the second word is stored where there is one, and the definition is over words.
 #[tactic(auto, using(crate::specs::Words::words_length, crate::specs::Wide::set_wide_past), unfolding(crate::specs::Wide::set_wide))]
 pub fn set_wide(bytes: &mut [u8], at: usize, v: u64)
     ensures { words bytes.new ≡ set_wide (words bytes.old) at v }
