@@ -50,6 +50,7 @@ pub extern "C" fn bridge_list(img: &[u8], m: u32, n: u32, pos: &mut [u8]) -> u32
     answer_number(made.answer)
 }
 
+// C says by a number which end it asks.
 fn step_at(img: &[u8], m: u32, n: u32, back: bool, p: Position) -> Stepped {
     if back {
         return next_back(img, m, n, p);

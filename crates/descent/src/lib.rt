@@ -18,7 +18,7 @@ use records::{Node, NodeIndex, Refusal};
 use std::ops::ControlFlow::{self, Break, Continue};
 
 // Why a descent stopped, and where: at a leaf that fits; at a node where the key parts from the map, with the number of bits that they share; in an
-// empty map; at damage.
+// empty map; at damage, which stands among the cases as the theorems on a descent take it (`stop_in`, accepted_lookup).
 #[derive(Clone, Copy)]
 pub enum Stop {
     Leaf(NodeIndex, Node),
@@ -164,7 +164,7 @@ fn all_bits(right: bool) -> Key
     Key { high: 0, low: 0 }
 }
 
-// The first leaf from the left, or from the right: the Rust's `find_min` and `find_max`.
+// The first leaf from the left, or from the right: the Rust's `find_min` and `find_max`. `right` picks a side, over which `end_of` ranges.
 #[tactic(auto, using(crate::specs::Bits::end_bits))]
 pub fn find_end(image: &Image, right: bool) -> Stop
     ensures { result ≡ end_of image.now.h (words image.now.bytes.now) right }

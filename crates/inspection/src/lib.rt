@@ -19,7 +19,7 @@ pub struct Image<'a> {
     pub ghost room: { Room h (length (words bytes.now)) },
 }
 
-// A visited node that passes, by its kind; or damage.
+// A visited node that passes, by its kind; or damage, a case like the others in `visit_kind` (Visit).
 #[derive(Clone, Copy)]
 pub enum Visited {
     Inner(Node),

@@ -9,7 +9,7 @@ use keys::Key;
 use records::{NodeIndex, Refusal, Value, ValueIndex};
 
 // One end of a listing: the nodes that are still to be opened, the next one last, and the value record that was given last (0 for none). Places at or above `count` are
-// what earlier steps left there.
+// what earlier steps left there. An array and its count: memory is fixed.
 #[derive(Clone, Copy)]
 pub struct Stack {
     pub places: [NodeIndex; 129],
@@ -24,7 +24,7 @@ pub struct Position {
     pub ended: bool,
 }
 
-// The answer of making a position.
+// The answer of making a position, which is made after a refusal too (`made_zeros`, Promises).
 #[derive(Clone, Copy)]
 pub struct Made {
     pub answer: Result<(), Refusal>,

@@ -16,7 +16,7 @@ use node_allocator::Counts;
 #[derive(Clone, Copy)]
 pub struct NodeIndex(pub u32);
 
-// The index of a value record. 0 means none.
+// The index of a value record. 0 means none. Two types, so that neither index is taken for the other.
 #[derive(Clone, Copy)]
 pub struct ValueIndex(pub u32);
 
@@ -54,6 +54,7 @@ impl Node {
     }
 }
 
+// The rules name the four registers one by one.
 #[derive(Clone, Copy)]
 pub struct ValueRecord {
     pub register0: u32,

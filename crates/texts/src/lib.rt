@@ -8,7 +8,7 @@ pub mod parse; // parse.rt: what a line asks
 use keys::Key;
 use records::Value;
 
-// What a line asks.
+// What a line asks. `Bad` is a command of its own: `bad_exactly` (accepted_commands) says when a line is one.
 #[derive(Clone, Copy)]
 pub enum Command {
     Insert(Key, Value),
