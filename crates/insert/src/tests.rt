@@ -14,7 +14,6 @@ ghost use Rattle.insert.specs.Steps.{opened_plan};
 use crate::Plan;
 use descent::{Stop, find};
 use inspection::Image;
-use inspection::open::open_image;
 use inspection::tests::{free_node, free_value};
 use inspection::visit::live_value;
 use keys::Key;
@@ -180,7 +179,6 @@ impl Opened<'_> {
 pub fn plan(img: &[u8], m: u32, n: u32, key: Key) -> Result<Plan, Refusal>
     ensures { result ≡ opened_plan m n (image_of img.now) key (open_of m n (image_of img.now)) }
 {
-    let h = open_image(img, m, n)?;
-    let image = Image { bytes: img, h };
+    let image = Image::open(img, m, n)?;
     Opened { image, m, n }.plan(key)
 }

@@ -9,7 +9,6 @@ ghost use Rattle.remove.specs.Steps.{opened_plan};
 
 use crate::Plan;
 use descent::reach;
-use inspection::open::open_image;
 use inspection::tests::is_used;
 use inspection::visit::live_value;
 use inspection::{Image, Visited};
@@ -74,7 +73,6 @@ fn key_plan(image: &Image, n: u32, key: Key) -> Result<Plan, Refusal>
 pub fn image_plan(img: &[u8], m: u32, n: u32, key: Key) -> Result<Plan, Refusal>
     ensures { result ≡ opened_plan n (image_of img.now) key (open_of m n (image_of img.now)) }
 {
-    let h = open_image(img, m, n)?;
-    let image = Image { bytes: img, h };
+    let image = Image::open(img, m, n)?;
     key_plan(&image, n, key)
 }
