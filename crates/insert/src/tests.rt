@@ -128,10 +128,8 @@ fn replace_plan(
 ) -> Result<Plan, Refusal>
     ensures { result ≡ stop_plan m n h (words img.now) (Leaf i x) }
 {
-    if live_value(img, n, i, x.value).is_some() {
-        return Ok(Plan::Replace(i, x.value));
-    }
-    Err(Refusal::Damaged)
+    live_value(img, n, i, x.value).ok_or(Refusal::Damaged)?;
+    Ok(Plan::Replace(i, x.value))
 }
 
 impl Opened<'_> {

@@ -19,10 +19,8 @@ pub fn stop_target(img: &[u8], n: u32, stop: Stop) -> Result<(NodeIndex, Node, V
     ensures { result ≡ stop_target n (words img.now) stop }
 {
     let (i, x) = stop.leaf()?;
-    match live_value(img, n, i, x.value) {
-        Some(v) => Ok((i, x, v)),
-        None => Err(Refusal::Damaged),
-    }
+    let v = live_value(img, n, i, x.value).ok_or(Refusal::Damaged)?;
+    Ok((i, x, v))
 }
 
 // A key's leaf and its value, or the first refusal in the order of rule R7.

@@ -45,15 +45,11 @@ fn cut_plan(image: &Image, key: Key, i: NodeIndex, x: Node, v: Value) -> Result<
 fn leaf_plan(image: &Image, n: u32, key: Key, i: NodeIndex, x: Node) -> Result<Plan, Refusal>
     ensures { result ≡ leaf_plan image.now.h (words image.now.bytes.now) key i x (live_of n (words image.now.bytes.now) i.0 x.value.0) }
 {
-    match live_value(image.bytes, n, i, x.value) {
-        Some(v) => {
-            if x.parent.0 == 0 {
-                return Ok(Plan::Lone(image.h, i, x, v));
-            }
-            cut_plan(image, key, i, x, v)
-        }
-        None => Err(Refusal::Damaged),
+    let v = live_value(image.bytes, n, i, x.value).ok_or(Refusal::Damaged)?;
+    if x.parent.0 == 0 {
+        return Ok(Plan::Lone(image.h, i, x, v));
     }
+    cut_plan(image, key, i, x, v)
 }
 
 // Where the key's bits lead, and whether the leaf there is the key's.
