@@ -14,7 +14,6 @@ ghost use Rattle.insert.specs.Steps.{opened_plan};
 use crate::Plan;
 use descent::{Stop, find};
 use inspection::Image;
-use inspection::open::open_image;
 use inspection::tests::{free_node, free_value};
 use inspection::visit::live_value;
 use keys::Key;
@@ -23,17 +22,6 @@ use records::read::{node_in, value_record};
 use records::{Header, Node, NodeIndex, Refusal, ValueIndex};
 
 // ---- the records that it will take
-
-// A node from the bump on: up to N it was never used.
-fn fresh_node(img: &[u8], n: u32, i: NodeIndex) -> bool
-    requires { (1 ≤ i.0) × (12 * n + 8 ≤ length (words img.now)) }
-    ensures { result ≡ leb i.0 n && never_used (Nodes n) (words img.now) i.0 }
-{
-    if i.0 <= n {
-        return never_used(img, Arena::Nodes { nodes: n }, i.0);
-    }
-    false
-}
 
 // An image that has been opened, with its M and N.
 #[derive(Clone, Copy)]
@@ -45,6 +33,17 @@ struct Opened<'a> {
 }
 
 impl Opened<'_> {
+    // A node from the bump on: up to N it was never used.
+    fn fresh_node(&self, i: NodeIndex) -> bool
+        requires { 1 ≤ i.0 }
+        ensures { result ≡ leb i.0 self.now.n && never_used (Nodes self.now.n) (words self.now.image.bytes.now) i.0 }
+    {
+        if i.0 <= self.n {
+            return never_used(self.image.bytes, Arena::Nodes { nodes: self.n }, i.0);
+        }
+        false
+    }
+
     // A node that is taken: below the bump it is free, and from there on it was never used.
     fn taken_node(&self, i: NodeIndex) -> bool
         requires { 1 ≤ i.0 }
@@ -55,7 +54,7 @@ impl Opened<'_> {
         if i.0 < h.nodes.bump {
             return free_node(img, h, i, node_in(img, i));
         }
-        fresh_node(img, self.n, i)
+        self.fresh_node(i)
     }
 
     // The node that is taken after the one at the head, if that may be taken.
@@ -70,7 +69,7 @@ impl Opened<'_> {
             if free_node(img, h, i, x) {
                 return Some(x.left);
             }
-        } else if fresh_node(img, self.n, i) {
+        } else if self.fresh_node(i) {
             return Some(NodeIndex(i.0 + 1));
         }
         None
@@ -129,10 +128,8 @@ fn replace_plan(
 ) -> Result<Plan, Refusal>
     ensures { result ≡ stop_plan m n h (words img.now) (Leaf i x) }
 {
-    if live_value(img, n, i, x.value).is_some() {
-        return Ok(Plan::Replace(i, x.value));
-    }
-    Err(Refusal::Damaged)
+    live_value(img, n, i, x.value).ok_or(Refusal::Damaged)?;
+    Ok(Plan::Replace(i, x.value))
 }
 
 impl Opened<'_> {
@@ -180,7 +177,6 @@ impl Opened<'_> {
 pub fn plan(img: &[u8], m: u32, n: u32, key: Key) -> Result<Plan, Refusal>
     ensures { result ≡ opened_plan m n (image_of img.now) key (open_of m n (image_of img.now)) }
 {
-    let h = open_image(img, m, n)?;
-    let image = Image { bytes: img, h };
+    let image = Image::open(img, m, n)?;
     Opened { image, m, n }.plan(key)
 }

@@ -1,10 +1,11 @@
 // Shape, then header: what every call but start tests first. And shape, then blank, for the calls that want blank memory.
-ghost use Rattle.std.specs.Prelude.{◌≡◌, true, length};
+ghost use Rattle.std.specs.Prelude.{◌≡◌, true, length, Err, IfErr, IfOk, Ok};
 ghost use Rattle.words.specs.Words.{words};
 ghost use Rattle.records.specs.Layout.{image_of};
 ghost use Rattle.inspection.specs.Tests.{shape_ok};
 ghost use Rattle.inspection.specs.Opening.{open_shaped, open_of, blank_of};
 
+use crate::Image;
 use crate::tests::{header_ok, padding_clean, shape_ok};
 use records::read::header_in;
 use records::{Header, Refusal};
@@ -38,6 +39,18 @@ pub fn open_image(img: &[u8], m: u32, n: u32) -> Result<Header, Refusal>
         return open_shaped(img, m, n);
     }
     Err(Refusal::Shape)
+}
+
+impl<'a> Image<'a> {
+    // The image that a buffer holds, or refusal 1 or 2.
+    #[tactic(auto, using(crate::specs::Room::room, crate::specs::Room::opened_words))]
+    pub fn open(img: &'a [u8], m: u32, n: u32) -> Result<Image<'a>, Refusal>
+        ensures ok { IfOk result (λ i. (open_of m n (image_of img.now) ≡ Ok i.h) × (i.bytes ≡ img.entry)) }
+        ensures err { IfErr result (λ r. open_of m n (image_of img.now) ≡ Err r) }
+    {
+        let h = open_image(img, m, n)?;
+        Ok(Image { bytes: img, h })
+    }
 }
 
 // Whether the image has the right shape and every word of it is 0; else refusal 1 or 5.

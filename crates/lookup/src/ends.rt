@@ -6,7 +6,6 @@ ghost use Rattle.lookup.specs.Ends.{end_entry, smallest_of, largest_of};
 use crate::get::stop_target;
 use descent::find_end;
 use inspection::Image;
-use inspection::open::open_image;
 use keys::Key;
 use records::{Refusal, Value};
 
@@ -14,8 +13,7 @@ use records::{Refusal, Value};
 fn end_entry(img: &[u8], m: u32, n: u32, right: bool) -> Result<(Key, Value), Refusal>
     ensures { result ≡ end_entry m n (image_of img.now) right }
 {
-    let h = open_image(img, m, n)?;
-    let image = Image { bytes: img, h };
+    let image = Image::open(img, m, n)?;
     let (_, x, v) = stop_target(img, n, find_end(&image, right))?;
     Ok((x.key, v))
 }

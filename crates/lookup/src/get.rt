@@ -8,7 +8,6 @@ ghost use Rattle.lookup.specs.Get.{stop_target, target_of, get_of, contains_of, 
 
 use descent::{Stop, find};
 use inspection::Image;
-use inspection::open::open_image;
 use inspection::visit::live_value;
 use keys::Key;
 use records::write::{live_record, set_value};
@@ -20,10 +19,8 @@ pub fn stop_target(img: &[u8], n: u32, stop: Stop) -> Result<(NodeIndex, Node, V
     ensures { result ≡ stop_target n (words img.now) stop }
 {
     let (i, x) = stop.leaf()?;
-    match live_value(img, n, i, x.value) {
-        Some(v) => Ok((i, x, v)),
-        None => Err(Refusal::Damaged),
-    }
+    let v = live_value(img, n, i, x.value).ok_or(Refusal::Damaged)?;
+    Ok((i, x, v))
 }
 
 // A key's leaf and its value, or the first refusal in the order of rule R7.
@@ -31,8 +28,7 @@ pub fn stop_target(img: &[u8], n: u32, stop: Stop) -> Result<(NodeIndex, Node, V
 fn target(img: &[u8], m: u32, n: u32, key: Key) -> Result<(NodeIndex, Node, Value), Refusal>
     ensures { result ≡ target_of m n (image_of img.now) key }
 {
-    let h = open_image(img, m, n)?;
-    let image = Image { bytes: img, h };
+    let image = Image::open(img, m, n)?;
     stop_target(img, n, find(&image, key))
 }
 
@@ -60,8 +56,7 @@ pub fn set(img: &mut [u8], m: u32, n: u32, key: Key, v: Value) -> Result<(), Ref
 pub fn contains(img: &[u8], m: u32, n: u32, key: Key) -> Result<(), Refusal>
     ensures { result ≡ contains_of m n (image_of img.now) key }
 {
-    let h = open_image(img, m, n)?;
-    let image = Image { bytes: img, h };
+    let image = Image::open(img, m, n)?;
     find(&image, key).leaf()?;
     Ok(())
 }
@@ -71,8 +66,7 @@ pub fn contains(img: &[u8], m: u32, n: u32, key: Key) -> Result<(), Refusal>
 pub fn get_addr(img: &[u8], m: u32, n: u32, key: Key) -> Result<NodeIndex, Refusal>
     ensures { result ≡ addr_of m n (image_of img.now) key }
 {
-    let h = open_image(img, m, n)?;
-    let image = Image { bytes: img, h };
+    let image = Image::open(img, m, n)?;
     let (i, _) = find(&image, key).leaf()?;
     Ok(i)
 }

@@ -9,11 +9,10 @@ ghost use Rattle.remove.specs.Steps.{opened_plan};
 
 use crate::Plan;
 use descent::reach;
-use inspection::open::open_image;
 use inspection::tests::is_used;
 use inspection::visit::live_value;
 use inspection::{Image, Visited};
-use keys::{Key, bit, same};
+use keys::{Key, bit};
 use records::read::node_in;
 use records::{Node, NodeIndex, Refusal, Value};
 
@@ -46,24 +45,20 @@ fn cut_plan(image: &Image, key: Key, i: NodeIndex, x: Node, v: Value) -> Result<
 fn leaf_plan(image: &Image, n: u32, key: Key, i: NodeIndex, x: Node) -> Result<Plan, Refusal>
     ensures { result ≡ leaf_plan image.now.h (words image.now.bytes.now) key i x (live_of n (words image.now.bytes.now) i.0 x.value.0) }
 {
-    match live_value(image.bytes, n, i, x.value) {
-        Some(v) => {
-            if x.parent.0 == 0 {
-                return Ok(Plan::Lone(image.h, i, x, v));
-            }
-            cut_plan(image, key, i, x, v)
-        }
-        None => Err(Refusal::Damaged),
+    let v = live_value(image.bytes, n, i, x.value).ok_or(Refusal::Damaged)?;
+    if x.parent.0 == 0 {
+        return Ok(Plan::Lone(image.h, i, x, v));
     }
+    cut_plan(image, key, i, x, v)
 }
 
 // Where the key's bits lead, and whether the leaf there is the key's.
-#[tactic(auto, unfolding(crate::specs::Plan::reached_plan))]
+#[tactic(auto, using(keys::proofs::Words::words_same), unfolding(crate::specs::Plan::reached_plan))]
 fn key_plan(image: &Image, n: u32, key: Key) -> Result<Plan, Refusal>
     ensures { result ≡ remove_plan n image.now.h (words image.now.bytes.now) key }
 {
     let (i, x) = reach(image, key).leaf()?;
-    if same(key, x.key) {
+    if key == x.key {
         return leaf_plan(image, n, key, i, x);
     }
     Err(Refusal::Absent)
@@ -74,7 +69,6 @@ fn key_plan(image: &Image, n: u32, key: Key) -> Result<Plan, Refusal>
 pub fn image_plan(img: &[u8], m: u32, n: u32, key: Key) -> Result<Plan, Refusal>
     ensures { result ≡ opened_plan n (image_of img.now) key (open_of m n (image_of img.now)) }
 {
-    let h = open_image(img, m, n)?;
-    let image = Image { bytes: img, h };
+    let image = Image::open(img, m, n)?;
     key_plan(&image, n, key)
 }

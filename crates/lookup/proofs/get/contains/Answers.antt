@@ -1,5 +1,4 @@
 -- `lookup::get::contains` meets its contract. Assumes nothing.
-use mathlib.Core.Path.{sym, ◌∙◌}
 use Rattle.std.proofs.Common.{rules}
 use Rattle.inspection.specs.Room.{opened_words}
 use Rattle.lookup.specs.Get.{contains_of, opened_done, leaf_done}
@@ -7,4 +6,4 @@ use Rattle.lookup.proofs.get.contains.Goals as goal
 
 pub returns-in_err-leaf : goal.returns-in_err-leaf
 unfolding contains_of opened_done leaf_done
-returns-in_err-leaf c = simp (← c.open_image.ensures, c.in_ok-h.was) (simp (opened_words _ _ _ _ (sym c.open_image.ensures ∙ c.in_ok-h.was), ← c.find.ensures, ← c.leaf.ensures, c.in_err-leaf.was) (search rules))
+returns-in_err-leaf c = simp c.in_ok-image.ensures.ok.0 (simp (opened_words _ _ _ _ c.in_ok-image.ensures.ok.0, ← c.in_ok-image.ensures.ok.1, ← c.find.ensures, ← c.leaf.ensures, c.in_err-leaf.was) (search rules))
