@@ -158,7 +158,7 @@ fn step(
     moved(s, places, count, given(img, n, reached, i, s.last, other))
 }
 
-// The next entry from the front: the Rust's `next`.
+// The next entry from the front: the Rust's `next`. It and `next_back` are two names over one step, each of which takes its own end from the position.
 pub fn next(img: &[u8], m: u32, n: u32, p: Position) -> Stepped
     ensures { result ≡ step_of false m n (image_of img.now) p }
 {

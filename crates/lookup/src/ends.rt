@@ -18,7 +18,7 @@ fn end_entry(img: &[u8], m: u32, n: u32, right: bool) -> Result<(Key, Value), Re
     Ok((x.key, v))
 }
 
-// The entry with the smallest key.
+// The entry with the smallest key. The Rust has two names, for which `end_entry` is one function.
 pub fn get_min(img: &[u8], m: u32, n: u32) -> Result<(Key, Value), Refusal>
     ensures { result ≡ smallest_of m n (image_of img.now) }
 {
