@@ -20,8 +20,7 @@ fn put_wide(out: &mut [u8], at: usize, v: u64)
     requires { at + 8 ≤ length out.old }
     ensures { out.new ≡ put_wide out.old at v }
 {
-    words::put(out, at, (v % 4294967296) as u32);
-    words::put(out, at + 4, (v / 4294967296) as u32);
+    out[at..at + 8].copy_from_slice(&v.to_le_bytes());
 }
 
 // The first 16 bytes are a value's; what lies behind them is as it was.

@@ -18,7 +18,7 @@ pub fn put_index(out: &mut [u8], at: usize, i: NodeIndex) -> usize
     put_text(out, b, b"\n")
 }
 
-// `gone V`
+// `gone V`. It differs from `put_val` in one word alone; each promises a text of its own, and a function under both would be longer than the line that it saves in each.
 pub fn put_gone(out: &mut [u8], at: usize, v: Value) -> usize
     requires { at + 80 ≤ length out.old }
     ensures room { result ≤ at + 80 }

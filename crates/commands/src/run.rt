@@ -20,6 +20,7 @@ use texts::Command;
 use texts::parse::parse;
 use texts::print::{put_bad, put_refusal, put_text};
 
+// The four `*_line` and `answer_entry` match a call's answer themselves: tried, one function over the answer and how to put it; its clauses on every reference to the output are longer than the matches.
 fn insert_line(img: &mut [u8], out: &mut [u8], at: usize, key: Key, v: Value) -> usize
     requires { at + 80 ≤ length out.old }
     ensures room { result ≤ at + 80 }

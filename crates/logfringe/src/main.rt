@@ -31,21 +31,20 @@ fn read_part(input: &mut impl Read, buf: &mut [u8]) -> io::Result<usize>
 // Answers a piece, and writes the answers: whenever the output is full, and at the end. Then no LF is left.
 fn answer_piece(
     rt: &impl Print,
-    buf: &[u8],
-    end: usize,
+    piece: &[u8],
     long: bool,
     img: &mut [u8],
     out: &mut [u8],
 ) -> Answered
-    requires { (end ≤ length buf.now) × (end ≤ 65536) × (16911 ≤ length out.old) }
-    ensures within { result.from ≤ end }
-    ensures image { PieceLeaves long (part 0 result.from buf.now) img.old img.new result.long }
-    ensures left { OnOk result.written ((k : ℕ) → result.from ≤ k → k < end → get_or buf.now k 0 ≡ 10 → ⊥) }
+    requires { (length piece.now ≤ 65536) × (16911 ≤ length out.old) }
+    ensures within { result.from ≤ length piece.now }
+    ensures image { PieceLeaves long (part 0 result.from piece.now) img.old img.new result.long }
+    ensures left { OnOk result.written ((k : ℕ) → result.from ≤ k → k < length piece.now → get_or piece.now k 0 ≡ 10 → ⊥) }
 {
     let mut from: usize = 0;
     let mut over = long;
     loop {
-        let t = answer_lines(buf, from, end, over, img, out, 0);
+        let t = answer_lines(piece, from, piece.len(), over, img, out, 0);
         from = t.from;
         over = t.long;
         let written = rt.write_all(&out[..t.at]);
@@ -98,7 +97,7 @@ fn answer_input(
             return answer_last(rt, buf, kept, img, out);
         }
         let end = have + got;
-        let a = answer_piece(rt, buf, end, kept.is_none(), img, out);
+        let a = answer_piece(rt, &buf[..end], kept.is_none(), img, out);
         a.written?;
         kept = keep(buf, a.from, end, a.long);
     }

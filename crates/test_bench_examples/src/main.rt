@@ -27,7 +27,7 @@ fn say(rt: &impl Print, text: &[u8], count: u64) -> io::Result<()> {
     println!(rt; "{count}")
 }
 
-// What start answers on so many blank words of the memory.
+// What start answers on so many blank words of the memory. 9 where it has fewer, which no example asks for; it is a number like the answers, as `say` prints it.
 fn started(img: &mut [u8], count: usize, m: u32, n: u32) -> u64 {
     words::clear(img);
     if count <= 131092 {
@@ -38,7 +38,7 @@ fn started(img: &mut [u8], count: usize, m: u32, n: u32) -> u64 {
     9
 }
 
-// Parent of node i, which is word 2 of its twelve; 0 where there is no such node.
+// Parent of node i, which is word 2 of its twelve; 0 where there is no such node. It is no Option: the word itself is 0 where a node has no parent.
 fn parent(img: &[u8], i: u32) -> u32 {
     if 0 < i {
         if i <= 512 {

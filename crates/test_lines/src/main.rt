@@ -100,20 +100,19 @@ fn count(text: &[u8], img: &mut [u8], buf: &mut [u8], first: &[u8], out: &mut [u
 fn report(
     rt: &impl Print,
     text: &[u8],
-    n: usize,
     img: &mut [u8],
     buf: &mut [u8],
     first: &mut [u8],
     out: &mut [u8],
 ) -> io::Result<()>
-    requires { (n ≤ length text.now) × (60080 ≤ length buf.old) × (16911 ≤ length first.old) × (16911 ≤ length out.old) }
+    requires { (60080 ≤ length buf.old) × (16911 ≤ length first.old) × (16911 ≤ length out.old) }
 {
-    let many = match run(&text[..n], 60000, img, buf, first) {
+    let many = match run(text, 60000, img, buf, first) {
         Ok(many) => many,
         Err(full) => full.at,
     };
     rt.write_all(&first[..many])?;
-    let agreed = count(&text[..n], img, buf, &first[..many], out);
+    let agreed = count(text, img, buf, &first[..many], out);
     println!(rt; "{agreed} of 200 piece lengths agree")
 }
 
@@ -144,5 +143,5 @@ fn main(rt: HostRuntime) -> io::Result<()> {
     let mut output = [0u8; 65536];
     let out: &mut [u8] = &mut output;
     let n = read_full(&mut rt.stdin(), text)?;
-    report(&rt, text, n, img, buf, first, out)
+    report(&rt, &text[..n], img, buf, first, out)
 }

@@ -58,6 +58,7 @@ fn ask(letter: u8, img: &[u8], m: u32, n: u32, key: Key) -> Outcome {
         b'p' => count(lookup::start::capacity(img, m, n)),
         b'n' => entry(lookup::ends::get_min(img, m, n)),
         b'x' => entry(lookup::ends::get_max(img, m, n)),
+        // A letter that is no call's. A number, as a record's answer is compared with it too; no call answers 99, and no record has it.
         _ => Outcome {
             number: 99,
             results: [0; 4],
@@ -120,6 +121,7 @@ fn agrees(rec: &[u8], img: &mut [u8]) -> bool {
 }
 
 // How many bytes of an image of 308 words a map of capacity M over N nodes takes; none where it is larger.
+// It is no Option: 0 is an empty image, and a call on a larger map is replayed on that and compared like any other.
 fn size(m: u32, n: u32) -> usize {
     if (m <= 7) & (n <= 20) {
         return 48 + 48 * (n as usize) + 32 * (m as usize);

@@ -3,12 +3,12 @@ ghost use Rattle.std.specs.Prelude.{◌≡◌, ◌+◌, ◌≤◌, length, cond,
 ghost use Rattle.texts.specs.Digits.{is_digit, digit_of};
 ghost use Rattle.texts.specs.Lines.{word_at, field_at};
 
-// A lowercase hex digit.
+// A lowercase hex digit; it is no `match` on ranges, as `digit` says.
 #[tactic(auto, unfolding(crate::specs::Digits::is_digit))]
 fn is_digit(b: u8) -> bool
     ensures { result ≡ is_digit b }
 {
-    ((48 <= b) & (b <= 57)) | ((97 <= b) & (b <= 102))
+    ((b'0' <= b) & (b <= b'9')) | ((b'a' <= b) & (b <= b'f'))
 }
 
 // What a lowercase hex digit stands for. `to_digit` and `from_str_radix` would take upper-case digits too.

@@ -6,7 +6,7 @@ use Rattle.commands.specs.Pieces.{part, PieceLeaves}
 use Rattle.logfringe.proofs.answer_piece.Given as goal
 
 abbrev pub invariant-loop-t : goal.invariant-loop-t
-invariant-loop-t g l = (l.from ≤ l.end) × (length l.out ≡ length l.initial.out) × (length l.img ≡ length l.initial.img) × PieceLeaves l.long (part 0 l.from l.buf) l.initial.img l.img l.over
+invariant-loop-t g l = (l.from ≤ length l.piece) × (length l.out ≡ length l.initial.out) × (length l.img ≡ length l.initial.img) × PieceLeaves l.long (part 0 l.from l.piece) l.initial.img l.img l.over
 
 abbrev pub decreases-loop-t : goal.decreases-loop-t
-decreases-loop-t g l = l.end - l.from
+decreases-loop-t g l = length l.piece - l.from

@@ -1,0 +1,2 @@
+-- What proofs of `board` cite: a part of a buffer that is written as a whole.
+pub mod Parts
