@@ -68,7 +68,8 @@ fn get_line(img: &[u8], out: &mut [u8], at: usize, key: Key) -> usize
     }
 }
 
-// Carries a command out and puts its answer into the output, which has room for the longest: a whole listing.
+// Carries a command out and puts its answer into the output, which has room for the longest: a whole listing. A command is
+// data that comes in, and is told apart here alone.
 #[tactic(auto, unfolding(crate::specs::Answers::answer_of, crate::specs::Answers::image_after, crate::specs::Answers::kept_by))]
 fn run(c: Command, img: &mut [u8], out: &mut [u8], at: usize) -> usize
     requires { at + 16911 ≤ length out.old }

@@ -48,7 +48,7 @@ fn entry(a: Result<(Key, Value), Refusal>) -> Outcome {
     Outcome::from(a.map(|(k, v)| [k.high, k.low, v.first, v.second]))
 }
 
-// A call that reads.
+// A call that reads. Its letter is data of the record, told apart here and in `make` alone.
 fn ask(letter: u8, img: &[u8], m: u32, n: u32, key: Key) -> Outcome {
     match letter {
         b'g' => got(lookup::get::get(img, m, n, key)),
