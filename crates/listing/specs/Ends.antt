@@ -30,43 +30,46 @@ use Rattle.listing.specs.Step.{pop_to, live_moved, leaf_moved, came_moved, opene
 
 -- ---- what the leaf comes to, without the stack
 
--- the value record of a leaf, tested: its entry, or damage
-unfoldable pub live_given : Node → Option Value → Option Given
-live_given x (Some v) = Some (record { ended = false; last = x.value; entry = Ok (x.key, v) })
-live_given x None = None
+abbrev pub stuck : ValueIndex → Given
+stuck last = record { moves = false; ended = false; last = last; entry = Err no.Damaged }
 
-unfoldable pub given_of : ℕ → List ℕ → Visited → NodeIndex → ValueIndex → ValueIndex → Option Given
+unfoldable pub live_given : Node → ValueIndex → Option Value → Given
+live_given x last (Some v) = record { moves = true; ended = false; last = x.value; entry = Ok (x.key, v) }
+live_given x last None = stuck last
+
+unfoldable pub given_of : ℕ → List ℕ → Visited → NodeIndex → ValueIndex → ValueIndex → Given
 given_of n ws (visited.Leaf x) leaf last other =
-    cond (eqb x.value.0 other.0) (Some (record { ended = true; last = last; entry = Err no.Absent })) (live_given x (live_of n ws leaf.0 x.value.0))
-given_of n ws (visited.Inner x) leaf last other = None
-given_of n ws visited.Damaged leaf last other = None
+    cond (eqb x.value.0 other.0)
+    (record { moves = true; ended = true; last = last; entry = Err no.Absent })
+    (live_given x last (live_of n ws leaf.0 x.value.0))
+given_of n ws (visited.Inner x) leaf last other = stuck last
+given_of n ws visited.Damaged leaf last other = stuck last
 
--- a refused step: the stack as it came
-abbrev pub stayed : Stack → Bool → Refusal → Moved
-stayed s ended r = record { near = s; ended = ended; entry = Err r }
-
--- the stack as opened, or as it came at damage
-unfoldable pub given : Stack → List NodeIndex → ℕ → Option Given → Moved
-given s places count (Some g) = record { near = record { places = places; count = count; last = g.last }; ended = g.ended; entry = g.entry }
-given s places count None = stayed s false no.Damaged
+-- the stack as opened where it moves, as it came where it does not
+abbrev pub given : Stack → Reached → Given → Moved
+given s o g = record {
+  near = record { places = cond g.moves o.places s.places; count = cond g.moves o.count s.count; last = g.last };
+  ended = g.ended;
+  entry = g.entry;
+}
 
 -- where it does not move, what was opened does not matter
 pub given_moved : (n : ℕ) (ws : List ℕ) (s : Stack) (other : ValueIndex) (o : Reached)
-    → opened_moved n ws s other o ≡ given s o.places o.count (given_of n ws o.came o.leaf s.last other)
-unfolding opened_moved leaf_moved live_moved given_of live_given given
+    → opened_moved n ws s other o ≡ given s o (given_of n ws o.came o.leaf s.last other)
+unfolding opened_moved leaf_moved live_moved given_of live_given
 given_moved n ws s other o = go o.came
   where
-    by_live : (x : Node) (l : Option Value) → live_moved s o x l ≡ given s o.places o.count (live_given x l)
+    by_live : (x : Node) (l : Option Value) → live_moved s o x l ≡ given s o (live_given x s.last l)
     by_live x (Some v) = refl
     by_live x None = refl
 
     meet : (x : Node) (b : Bool) (l : Option Value)
         → cond b (record { near = record { places = o.places; count = o.count; last = s.last }; ended = true; entry = Err no.Absent }) (live_moved s o x l)
-        ≡ given s o.places o.count (cond b (Some (record { ended = true; last = s.last; entry = Err no.Absent })) (live_given x l))
+        ≡ given s o (cond b (record { moves = true; ended = true; last = s.last; entry = Err no.Absent }) (live_given x s.last l))
     meet x true l = refl
     meet x false l = by_live x l
 
-    go : (came : Visited) → came_moved n ws s other o came ≡ given s o.places o.count (given_of n ws came o.leaf s.last other)
+    go : (came : Visited) → came_moved n ws s other o came ≡ given s o (given_of n ws came o.leaf s.last other)
     go (visited.Leaf x) = meet x (eqb x.value.0 other.0) (live_of n ws o.leaf.0 x.value.0)
     go (visited.Inner x) = refl
     go visited.Damaged = refl
@@ -115,6 +118,9 @@ admit_pops m n ws ended count held h e = go (shape_ok m n (length ws)) refl (leb
             let same : k ≡ h = cc in record { shape = a; opened = f ∙ ap Ok same; some = some_count ended count c; most = leb-true count 129 (and_l (leb count 129) (leb held 129) b) }
 
 -- ---- an end's step
+
+abbrev pub stayed : Stack → Bool → Refusal → Moved
+stayed s ended r = record { near = s; ended = ended; entry = Err r }
 
 abbrev pub admit_moved : Bool → ℕ → List ℕ → Bool → Stack → ValueIndex → Result Header Refusal → Moved
 admit_moved back n ws ended s other (Ok h) = opened_moved n ws s other (pop_to back h ws s)

@@ -2,7 +2,7 @@
 -- left before.
 use Rattle.std.proofs.Math.Path.{◌≡◌, refl, sym, ap}
 use Rattle.std.proofs.Common.{◌∙◌, arith}
-use Rattle.std.specs.Prelude.{List, Bool, ◌&&◌, not, length, set, leb, Ok, Option}
+use Rattle.std.specs.Prelude.{List, Bool, ◌&&◌, not, length, set, leb, Ok}
 use Rattle.std.proofs.Math.Bool.{true, false, cond}
 use Rattle.std.proofs.lemmas.Bool.{false≢true}
 use Prim.Native.Nat.{ℕ, zero, suc, ◌+◌, ◌-◌, ◌≤◌, ◌<◌}
@@ -117,10 +117,11 @@ module _ (back : Bool) (h : Header) (ws : List ℕ) (s : Stack) (places : List N
 
 -- where it ends, the step is what the leaf comes to, put together of its parts
 pub finished : (back : Bool) (h : Header) (ws : List ℕ) (s : Stack) (places : List NodeIndex) (count : ℕ) (i : NodeIndex) (v : Visited) (n : ℕ) (other : ValueIndex)
-    → reached_at v places count i ≡ pop_to back h ws s → (g : Option Given) → g ≡ given_of n ws v i s.last other
-    → given s places count g ≡ opened_moved n ws s other (pop_to back h ws s)
-finished back h ws s places count i v n other e g k =
-    ap (given s places count) k
+    → reached_at v places count i ≡ pop_to back h ws s → (g : Given) → g ≡ given_of n ws v i s.last other → (places' : List NodeIndex) (count' : ℕ)
+    → places' ≡ cond g.moves places s.places → count' ≡ cond g.moves count s.count
+    → record { near = record { places = places'; count = count'; last = g.last }; ended = g.ended; entry = g.entry } ≡ opened_moved n ws s other (pop_to back h ws s)
+finished back h ws s places count i v n other e g k places' count' p c =
+    (λ ι. record { near = record { places = p ι; count = c ι; last = g.last }; ended = g.ended; entry = g.entry }) ∙ ap (given s (reached_at v places count i)) k
     ∙ sym (given_moved n ws s other (reached_at v places count i))
     ∙ ap (opened_moved n ws s other) e
 

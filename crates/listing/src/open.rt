@@ -2,7 +2,7 @@
 ghost use Rattle.std.specs.Prelude.{◌≡◌, ◌+◌, ◌-◌, ◌*◌, ◌≤◌, ◌<◌};
 ghost use Rattle.words.specs.Words.{words};
 ghost use Rattle.listing.specs.Step.{open_turn};
-ghost use Rattle.listing.specs.Ends.{live_given, given_of};
+ghost use Rattle.listing.specs.Ends.{stuck, live_given, given_of};
 
 use crate::{Given, Opens};
 use inspection::visit::live_value;
@@ -33,20 +33,35 @@ pub fn open_turn(image: &Image, back: bool, count: u32, i: NodeIndex, came: Visi
     }
 }
 
-// A leaf's entry, by its value record.
-#[tactic(auto, unfolding(crate::specs::Ends::live_given))]
-fn live_given(x: Node, live: Option<Value>) -> Option<Given>
-    ensures { result ≡ live_given x live }
+// Damage: the stack does not move.
+fn stopped(last: ValueIndex) -> Given
+    ensures { result ≡ stuck last }
 {
-    let v = live?;
-    Some(Given {
+    Given {
+        moves: false,
         ended: false,
-        last: x.value,
-        entry: Ok((x.key, v)),
-    })
+        last,
+        entry: Err(Refusal::Damaged),
+    }
 }
 
-// What the leaf comes to: the ends meet, or its value record is tested and its entry given; nothing at damage.
+// A leaf's entry, by its value record.
+#[tactic(auto, unfolding(crate::specs::Ends::live_given))]
+fn live_given(x: Node, last: ValueIndex, live: Option<Value>) -> Given
+    ensures { result ≡ live_given x last live }
+{
+    match live {
+        Some(v) => Given {
+            moves: true,
+            ended: false,
+            last: x.value,
+            entry: Ok((x.key, v)),
+        },
+        None => stopped(last),
+    }
+}
+
+// What the leaf comes to: the ends meet, or its value record is tested and its entry given.
 pub fn given(
     img: &[u8],
     n: u32,
@@ -54,21 +69,22 @@ pub fn given(
     leaf: NodeIndex,
     last: ValueIndex,
     other: ValueIndex,
-) -> Option<Given>
+) -> Given
     ensures { result ≡ given_of n (words img.now) came leaf last other }
 {
     match came {
         Visited::Leaf(x) => {
             if x.value.0 == other.0 {
-                return Some(Given {
+                return Given {
+                    moves: true,
                     ended: true,
                     last,
                     entry: Err(Refusal::Absent),
-                });
+                };
             }
-            live_given(x, live_value(img, n, leaf, x.value))
+            live_given(x, last, live_value(img, n, leaf, x.value))
         }
-        Visited::Inner(_) => None,
-        Visited::Damaged => None,
+        Visited::Inner(_) => stopped(last),
+        Visited::Damaged => stopped(last),
     }
 }

@@ -4,10 +4,10 @@ ghost use Rattle.words.specs.Words.{words};
 ghost use Rattle.records.specs.Layout.{image_of};
 ghost use Rattle.listing.specs.Position.{empty_stack, root_stack, both_ends, opened_made, made_of};
 ghost use Rattle.listing.specs.Step.{step_of};
-ghost use Rattle.listing.specs.Ends.{admit_of, stayed, given as given_moved, end_step};
+ghost use Rattle.listing.specs.Ends.{admit_of, end_step};
 
 use crate::open::{given, open_turn};
-use crate::{Given, Made, Moved, Opens, Position, Stack, Stepped};
+use crate::{Made, Moved, Opens, Position, Stack, Stepped};
 use inspection::open::{is_image, open_image, open_shaped};
 use inspection::{Image, Visited};
 use records::{Header, NodeIndex, Refusal, ValueIndex};
@@ -87,36 +87,6 @@ fn admit(img: &[u8], m: u32, n: u32, ended: bool, count: u32, held: u32) -> Resu
     Ok(h)
 }
 
-// A refused step: the stack as it came.
-fn stayed(s: Stack, ended: bool, r: Refusal) -> Moved
-    ensures { result ≡ stayed s ended r }
-{
-    Moved {
-        near: s,
-        ended,
-        entry: Err(r),
-    }
-}
-
-// What a step makes of its stack `s`, on which nodes were opened: it moves, or at damage it stays as it came.
-#[tactic(auto, unfolding(crate::specs::Ends::given))]
-fn moved(s: Stack, places: [NodeIndex; 129], count: u32, given: Option<Given>) -> Moved
-    ensures { result ≡ given_moved s places count given }
-{
-    match given {
-        Some(g) => Moved {
-            near: Stack {
-                places,
-                count,
-                last: g.last,
-            },
-            ended: g.ended,
-            entry: g.entry,
-        },
-        None => stayed(s, false, Refusal::Damaged),
-    }
-}
-
 // A step at one end, whose stack is `s`; the other end has so many places, and gave `other` last. The next node is popped, and nodes are opened from there on
 // until a leaf comes. The stack is copied once and written in place; it goes back as it came where a test fails.
 fn step(
@@ -133,7 +103,11 @@ fn step(
 {
     let h = match admit(img, m, n, ended, s.count, held) {
         Ok(h) => h,
-        Err(r) => return stayed(s, ended, r),
+        Err(r) => return Moved {
+            near: s,
+            ended,
+            entry: Err(r),
+        },
     };
     let mut places = s.places;
     let mut count = s.count - 1;
@@ -155,7 +129,20 @@ fn step(
             Opens::Spoiled => break Visited::Damaged,
         }
     };
-    moved(s, places, count, given(img, n, reached, i, s.last, other))
+    let g = given(img, n, reached, i, s.last, other);
+    if !g.moves {
+        places = s.places;
+        count = s.count;
+    }
+    Moved {
+        near: Stack {
+            places,
+            count,
+            last: g.last,
+        },
+        ended: g.ended,
+        entry: g.entry,
+    }
 }
 
 // The next entry from the front: the Rust's `next`. It and `next_back` are two names over one step, each of which takes its own end from the position.
@@ -176,8 +163,8 @@ pub fn next(img: &[u8], m: u32, n: u32, p: Position) -> Stepped
         entry: r.entry,
         position: Position {
             front: r.near,
+            back: p.back,
             ended: r.ended,
-            ..p
         },
     }
 }
@@ -199,9 +186,9 @@ pub fn next_back(img: &[u8], m: u32, n: u32, p: Position) -> Stepped
     Stepped {
         entry: r.entry,
         position: Position {
+            front: p.front,
             back: r.near,
             ended: r.ended,
-            ..p
         },
     }
 }

@@ -13,8 +13,8 @@ returns-else-x-other c = simp (c.in-Leaf.is, ne_eqb _ _ c.if-x-other.false, c.li
 
 pub returns-in-Inner : goal.returns-in-Inner
 unfolding given_of
-returns-in-Inner c = simp (c.in-Inner.is)
+returns-in-Inner c = simp (c.in-Inner.is, c.stopped.ensures)
 
 pub returns-in-Damaged : goal.returns-in-Damaged
 unfolding given_of
-returns-in-Damaged c = simp (c.in-Damaged.is)
+returns-in-Damaged c = simp (c.in-Damaged.is, c.stopped-in-Damaged.ensures)

@@ -5,13 +5,13 @@ use Rattle.words.specs.Words.{words}
 use Rattle.records.specs.Layout.{image_of}
 use Rattle.listing.specs.Step.{reached_at, pop_to}
 use Rattle.listing.specs.Ends.{admit_moved, end_step}
-use Rattle.listing.specs.Laws.{opening, opens_room, opens_nearer, opens_on, opens_last, finished, admit_room, admit_count, admit_moved_lem}
-use Rattle.listing.proofs.step.step.Goals.{in-Came, in-Spoiled}
+use Rattle.listing.specs.Laws.{opening, opens_room, opens_nearer, opens_on, opens_last, finished, kept_back, kept_on, admit_room, admit_count, admit_moved_lem}
+use Rattle.listing.proofs.step.step.Goals.{in-Came, in-Spoiled, then-not-g, else-not-g}
 use Rattle.listing.proofs.step.step.Goals as goal
 
 pub returns-in-Err : goal.returns-in-Err
 unfolding end_step
-returns-in-Err c = c.stayed.ensures ∙ sym (ap (admit_moved c.args.back c.args.n (image_of c.args.img.now) c.args.ended c.args.s c.args.other) (sym c.admit.ensures ∙ c.in-Err.is))
+returns-in-Err c = sym (ap (admit_moved c.args.back c.args.n (image_of c.args.img.now) c.args.ended c.args.s c.args.other) (sym c.admit.ensures ∙ c.in-Err.is))
 
 pub overflow_sub-count : goal.overflow_sub-count
 overflow_sub-count c = omega (arith, admit_count c.args.m c.args.n c.args.img.now c.args.ended c.args.held _ c.args.s.count (sym c.admit.ensures ∙ c.in-Ok.is))
@@ -48,6 +48,10 @@ returns c =
       | in-Came w ↦ rw w.reached-is (last _ (sym c.open_turn.ensures ∙ w.in-Came.is) _ (λ go. refl))
       | in-Spoiled w ↦ rw w.reached-is (last _ (sym c.open_turn.ensures ∙ w.in-Spoiled.is) _ (λ go. refl))
     ] in
-    c.moved.ensures
-    ∙ finished c.args.back c.in-Ok.h (words c.args.img.now) c.args.s c.loop-wait.places c.loop-wait.count c.loop-wait.i c.match-open_turn.reached c.args.n c.args.other whole c.given.result c.given.ensures
+    let k = c.given-g.result.moves in
+    let ends = finished c.args.back c.in-Ok.h (words c.args.img.now) c.args.s c.loop-wait.places c.loop-wait.count c.loop-wait.i c.match-open_turn.reached c.args.n c.args.other whole c.given-g.result c.given-g.ensures c.if-not-g.places c.if-not-g.count in
+    elim c.if-not-g.branch [
+      | then-not-g w ↦ ends (w.places-is ∙ kept_back k c.loop-wait.places _ w.if-not-g.true) (w.count-is ∙ kept_back k c.loop-wait.count _ w.if-not-g.true)
+      | else-not-g w ↦ ends (w.places-is ∙ kept_on k _ c.args.s.places w.if-not-g.false) (w.count-is ∙ kept_on k _ c.args.s.count w.if-not-g.false)
+    ]
     ∙ admit_moved_lem c.args.m c.args.n c.args.img.now c.args.ended c.args.held c.in-Ok.h c.args.back c.args.s c.args.other c.loop-wait.invariant.0
