@@ -47,7 +47,7 @@ pub fn node_chain(image: &Image) -> bool
     })
 }
 
-// The chain of free value records.
+// The chain of free value records. It takes the bytes and no `Image`: it asks nothing of them.
 pub fn value_chain(img: &[u8], n: u32, h: Header) -> bool
     ensures { result ≡ value_chain n h (words img.now) }
 {

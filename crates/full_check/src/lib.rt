@@ -51,6 +51,7 @@ fn opened_check(img: &[u8], marks: &mut [u8], m: u32, n: u32) -> Result<(), Refu
     ensures { result ≡ opened_check m n (image_of img.now) (open_of m n (image_of img.now)) }
 {
     let h = open_shaped(img, m, n)?;
+    // Not by `Image::open`: the shape was tested before.
     let image = Image { bytes: img, h };
     if records_ok(&image, marks, m, n) {
         return Ok(());

@@ -113,6 +113,7 @@ fn step(
     let mut count = s.count - 1;
     let top = count as usize;
     let mut i = places[top];
+    // Not by `Image::open`: `admit` has tested the shape.
     let image = Image { bytes: img, h };
     let mut came = image.visit_first(i);
     let reached = loop {
