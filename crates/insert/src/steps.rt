@@ -14,7 +14,7 @@ use records::write::{live_record, with_parent};
 use records::{Header, Node, NodeIndex, Value, ValueIndex};
 
 // The leaf's node is taken, and its value record, which holds the value. The answer is the nodes' header afterwards. It
-// is inlined at both its places for speed: an insert takes 1,085 instructions where it is not, and so 1,004.
+// is inlined at both its places for speed: an insert took 1,085 instructions before, and then 1,004.
 #[tactic(auto, unfolding(crate::specs::Steps::leaf_taken))]
 #[inline(always)]
 fn take_leaf(img: &mut Arenas, h: Header, v: Value) -> Counts

@@ -27,7 +27,7 @@ fn bare(parent: NodeIndex, x: Node) -> Node
 }
 
 // Frees the value record of leaf `i`, whose record is `x`, then its node, and answers the nodes' header afterwards. It is
-// inlined for speed: a remove takes 1,011 instructions where it is not, and so 990.
+// inlined for speed: a remove took 1,011 instructions before, and then 990.
 #[tactic(auto, unfolding(crate::specs::Steps::leaf_freed))]
 #[inline]
 fn free_leaf(img: &mut Arenas, h: Header, i: NodeIndex, x: Node) -> Counts

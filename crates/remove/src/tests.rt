@@ -12,7 +12,7 @@ use descent::reach;
 use inspection::tests::is_used;
 use inspection::visit::live_value;
 use inspection::{Image, Visited};
-use keys::{Key, bit};
+use keys::{Key, bit, same};
 use records::read::node_in;
 use records::{Node, NodeIndex, Refusal, Value};
 
@@ -53,12 +53,12 @@ fn leaf_plan(image: &Image, n: u32, key: Key, i: NodeIndex, x: Node) -> Result<P
 }
 
 // Where the key's bits lead, and whether the leaf there is the key's.
-#[tactic(auto, using(keys::proofs::Words::words_same), unfolding(crate::specs::Plan::reached_plan))]
+#[tactic(auto, unfolding(crate::specs::Plan::reached_plan))]
 fn key_plan(image: &Image, n: u32, key: Key) -> Result<Plan, Refusal>
     ensures { result ≡ remove_plan n image.now.h (words image.now.bytes.now) key }
 {
     let (i, x) = reach(image, key).leaf()?;
-    if key == x.key {
+    if same(key, x.key) {
         return leaf_plan(image, n, key, i, x);
     }
     Err(Refusal::Absent)
