@@ -43,7 +43,7 @@ pub fn open_image(img: &[u8], m: u32, n: u32) -> Result<Header, Refusal>
 
 impl<'a> Image<'a> {
     // The image that a buffer holds, or refusal 1 or 2.
-    #[tactic(auto, using(crate::specs::Room::room, crate::specs::Room::opened_words))]
+    #[tactic(auto, using(crate::specs::Room::room, crate::specs::Room::opened_words), unfolding(crate::specs::Opening::open_of))]
     pub fn open(img: &'a [u8], m: u32, n: u32) -> Result<Image<'a>, Refusal>
         ensures ok { IfOk result (λ i. (open_of m n (image_of img.now) ≡ Ok i.h) × (i.bytes ≡ img.entry)) }
         ensures err { IfErr result (λ r. open_of m n (image_of img.now) ≡ Err r) }

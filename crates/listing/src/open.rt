@@ -10,6 +10,7 @@ use inspection::{Image, Visited};
 use records::{Node, NodeIndex, Refusal, Value, ValueIndex};
 
 // One node of the opening: node `i`, which has passed, on a stack of so many places. Both children are tested.
+#[tactic(auto, using(crate::specs::Step::far_child), unfolding(crate::specs::Step::open_turn))]
 pub fn open_turn(image: &Image, back: bool, count: u32, i: NodeIndex, came: Visited) -> Opens
     requires { count ≤ 129 }
     ensures { result ≡ open_turn back image.now.h (words image.now.bytes.now) count i came }

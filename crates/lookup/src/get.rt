@@ -14,7 +14,7 @@ use records::write::{live_record, set_value};
 use records::{Node, NodeIndex, Refusal, Value};
 
 // The leaf that a descent came to and its value, whose record is tested.
-#[tactic(auto, unfolding(crate::specs::Get::leaf_target, crate::specs::Get::live_target))]
+#[tactic(auto, unfolding(crate::specs::Get::leaf_target, crate::specs::Get::live_target, descent::specs::Found::stop_leaf))]
 pub fn stop_target(img: &[u8], n: u32, stop: Stop) -> Result<(NodeIndex, Node, Value), Refusal>
     ensures { result ≡ stop_target n (words img.now) stop }
 {
@@ -52,7 +52,7 @@ pub fn set(img: &mut [u8], m: u32, n: u32, key: Key, v: Value) -> Result<(), Ref
 }
 
 // Whether a key is held: yes, or refusal 4. No value record is tested.
-#[tactic(auto, using(inspection::specs::Room::room, inspection::specs::Room::opened_words), unfolding(crate::specs::Get::contains_of, crate::specs::Get::opened_done, crate::specs::Get::leaf_done))]
+#[tactic(auto, using(inspection::specs::Room::room, inspection::specs::Room::opened_words), unfolding(crate::specs::Get::contains_of, crate::specs::Get::opened_done, crate::specs::Get::leaf_done, descent::specs::Found::stop_leaf))]
 pub fn contains(img: &[u8], m: u32, n: u32, key: Key) -> Result<(), Refusal>
     ensures { result ≡ contains_of m n (image_of img.now) key }
 {
@@ -62,7 +62,7 @@ pub fn contains(img: &[u8], m: u32, n: u32, key: Key) -> Result<(), Refusal>
 }
 
 // The node of a key. No value record is tested.
-#[tactic(auto, using(inspection::specs::Room::room, inspection::specs::Room::opened_words), unfolding(crate::specs::Get::addr_of, crate::specs::Get::opened_place, crate::specs::Get::leaf_place))]
+#[tactic(auto, using(inspection::specs::Room::room, inspection::specs::Room::opened_words), unfolding(crate::specs::Get::addr_of, crate::specs::Get::opened_place, crate::specs::Get::leaf_place, descent::specs::Found::stop_leaf))]
 pub fn get_addr(img: &[u8], m: u32, n: u32, key: Key) -> Result<NodeIndex, Refusal>
     ensures { result ≡ addr_of m n (image_of img.now) key }
 {

@@ -87,6 +87,7 @@ pub fn answer_number<T: Copy>(answer: Result<T, Refusal>) -> u32
 }
 
 // The number of a refusal.
+#[tactic(auto, using(crate::proofs::Tags::tag_number), unfolding(crate::specs::Numbers::refusal_number))]
 pub fn number(r: Refusal) -> u32
     ensures { result ≡ refusal_number r }
 {
